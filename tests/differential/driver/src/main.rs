@@ -1,0 +1,93 @@
+//! Compares the unchanged Rust with the static library, call by call, to the bit.
+//!
+//!     differential [--seed N] [--count N]    compare; status 1 where any answer differs
+//!     differential --replay DIR              write a fixed sample of the Rust's answers
+
+mod ffi;
+mod floats;
+mod random;
+mod replay;
+mod tally;
+mod values;
+
+use std::path::Path;
+use std::process::ExitCode;
+
+use random::Random;
+use tally::Tally;
+
+/// One call of the library, with the number of random cases that it is tried on.
+struct Comparison {
+    name: &'static str,
+    count: u64,
+    run: fn(&mut Random, u64) -> Tally,
+}
+
+const COMPARISONS: [Comparison; 4] = [
+    Comparison {
+        name: "pairwise_sum",
+        count: 1_000_000,
+        run: floats::pairwise_sum,
+    },
+    Comparison {
+        name: "round_output",
+        count: 4_000_000,
+        run: floats::round_output,
+    },
+    Comparison {
+        name: "rounded_product",
+        count: 4_000_000,
+        run: floats::rounded_product,
+    },
+    Comparison {
+        name: "round",
+        count: 4_000_000,
+        run: floats::round,
+    },
+];
+
+fn compare(seed: u64, count: Option<u64>) -> ExitCode {
+    let mut agree = true;
+    for comparison in &COMPARISONS {
+        let count = count.unwrap_or(comparison.count);
+        let tally = (comparison.run)(&mut Random::new(seed), count);
+        println!("{}: {tally}", comparison.name);
+        agree &= tally.agrees();
+    }
+    if agree {
+        ExitCode::SUCCESS
+    } else {
+        ExitCode::FAILURE
+    }
+}
+
+fn replay(dir: &str) -> ExitCode {
+    match replay::write(Path::new(dir)) {
+        Ok(lines) => {
+            println!("replay: {lines} calls written to {dir}");
+            ExitCode::SUCCESS
+        }
+        Err(e) => {
+            eprintln!("replay: {dir}: {e}");
+            ExitCode::FAILURE
+        }
+    }
+}
+
+fn main() -> ExitCode {
+    let (mut seed, mut count) = (1, None);
+    let mut arguments = std::env::args().skip(1);
+    while let Some(name) = arguments.next() {
+        let value = arguments.next().unwrap_or_default();
+        match (name.as_str(), value.parse()) {
+            ("--replay", _) if !value.is_empty() => return replay(&value),
+            ("--seed", Ok(n)) => seed = n,
+            ("--count", Ok(n)) => count = Some(n),
+            _ => {
+                eprintln!("usage: differential [--seed N] [--count N] | --replay DIR");
+                return ExitCode::from(2);
+            }
+        }
+    }
+    compare(seed, count)
+}

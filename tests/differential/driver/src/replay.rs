@@ -1,0 +1,82 @@
+//! A fixed sample of the Rust's answers, for a program of the repository to replay: `stdin` holds
+//! a call a line, `stdout` the answer to each, all in hex.
+
+use std::path::Path;
+use std::{fs, io};
+
+use pagetriage::math;
+
+use crate::floats;
+use crate::random::Random;
+use crate::tally::{bits, hex, hex_floats};
+use crate::values::LANDMARKS;
+
+#[derive(Default)]
+struct Sample {
+    calls: String,
+    answers: String,
+    lines: usize,
+}
+
+impl Sample {
+    fn add(&mut self, call: &str, answer: u64) {
+        self.calls += call;
+        self.calls += "\n";
+        self.answers += &hex(&[answer]);
+        self.answers += "\n";
+        self.lines += 1;
+    }
+
+    fn pairwise_sum(&mut self, values: &[f64]) {
+        let mut call = format!("1 {:x}", values.len());
+        if !values.is_empty() {
+            call += " ";
+            call += &hex_floats(values);
+        }
+        self.add(&call, bits(math::pairwise_sum(values)));
+    }
+
+    fn round_output(&mut self, x: f64) {
+        self.add(
+            &format!("2 {}", hex_floats(&[x])),
+            bits(math::round_output(x)),
+        );
+    }
+
+    fn rounded_product(&mut self, a: f64, b: f64) {
+        let answer = (a * b).round() as i64;
+        self.add(&format!("3 {}", hex_floats(&[a, b])), answer as u64);
+    }
+
+    fn round(&mut self, x: f64) {
+        self.add(&format!("4 {}", hex_floats(&[x])), bits(x.round()));
+    }
+}
+
+/// Writes the sample below `dir` and returns its number of calls.
+pub fn write(dir: &Path) -> io::Result<usize> {
+    let mut sample = Sample::default();
+    let random = &mut Random::new(1);
+    for length in (0..=40).chain(0..=40).chain([64, 65, 100]) {
+        sample.pairwise_sum(&floats::list(random, length));
+    }
+    for x in LANDMARKS {
+        sample.round_output(x);
+        sample.round_output(-x);
+        sample.round(x);
+        sample.round(-x);
+        sample.rounded_product(x, 1.0);
+        sample.rounded_product(-x, 1.0);
+    }
+    for _ in 0..16 {
+        sample.round_output(floats::output(random));
+        sample.round(floats::rounded(random));
+        let (a, b) = floats::factors(random);
+        sample.rounded_product(a, b);
+        sample.rounded_product(random.pick(&LANDMARKS), random.pick(&LANDMARKS));
+    }
+    fs::create_dir_all(dir)?;
+    fs::write(dir.join("stdin"), sample.calls)?;
+    fs::write(dir.join("stdout"), sample.answers)?;
+    Ok(sample.lines)
+}
