@@ -42,15 +42,24 @@ fn main() -> Result<(), Box<dyn Error>> {
         &Path::new(&env::var("CARGO_MANIFEST_DIR")?).join("shims"),
         &src,
     )?;
+    write_absent_modules(&src.join("pixel"))?;
+    write_empty_defaults(&params, &tree.join("params"))
+}
+
+fn write_absent_modules(dir: &Path) -> Result<(), Box<dyn Error>> {
     for (module, settings) in ABSENT_MODULES {
         let text = settings.map_or(String::new(), |name| format!("absent_settings!({name});\n"));
-        fs::write(src.join("pixel").join(module).with_extension("rs"), text)?;
+        fs::write(dir.join(module).with_extension("rs"), text)?;
     }
-    // The default settings: empty, and never read.
-    fs::create_dir(tree.join("params"))?;
+    Ok(())
+}
+
+/// The files of default settings that params.rs includes: empty, and never read.
+fn write_empty_defaults(params: &str, dir: &Path) -> Result<(), Box<dyn Error>> {
+    fs::create_dir(dir)?;
     for rest in params.split("include_str!(\"../params/").skip(1) {
         let (name, _) = rest.split_once('"').ok_or("params.rs names no file")?;
-        fs::write(tree.join("params").join(name), "")?;
+        fs::write(dir.join(name), "")?;
     }
     Ok(())
 }
@@ -60,10 +69,8 @@ fn link(from: &Path, to: &Path) -> Result<(), Box<dyn Error>> {
     println!("cargo::rerun-if-changed={}", from.display());
     fs::create_dir_all(to)?;
     for entry in fs::read_dir(from)? {
-        let (path, place) = {
-            let entry = entry?;
-            (entry.path(), to.join(entry.file_name()))
-        };
+        let entry = entry?;
+        let (path, place) = (entry.path(), to.join(entry.file_name()));
         if path.is_dir() {
             link(&path, &place)?;
         } else {

@@ -22,7 +22,7 @@ pub fn pairwise_sum(random: &mut Random, count: u64) -> Tally {
         tally.compare(
             &[bits(math::pairwise_sum(&values))],
             &[bits(ffi::pairwise_sum(&values))],
-            || format!("{length} values {}", hex_floats(&values)),
+            || start_of(&values),
         );
     }
     tally
@@ -38,24 +38,22 @@ pub fn round(random: &mut Random, count: u64) -> Tally {
 
 pub fn rounded_product(random: &mut Random, count: u64) -> Tally {
     let mut tally = Tally::default();
-    let mut compare = |a: f64, b: f64| {
+    let ends = boundaries();
+    let pairs = ends.iter().flat_map(|&a| ends.iter().map(move |&b| (a, b)));
+    for (a, b) in pairs.chain((0..count).map(|_| factors(random))) {
         tally.compare(
             &[(a * b).round() as i64 as u64],
             &[ffi::rounded_product(a, b) as u64],
             || hex_floats(&[a, b]),
         );
-    };
-    let boundaries = boundaries();
-    for &a in &boundaries {
-        for &b in &boundaries {
-            compare(a, b);
-        }
-    }
-    for _ in 0..count {
-        let (a, b) = factors(random);
-        compare(a, b);
     }
     tally
+}
+
+/// The length of a list and its first values, by which the seed finds the rest again.
+fn start_of(values: &[f64]) -> String {
+    let shown = &values[..values.len().min(40)];
+    format!("{} values {}", values.len(), hex_floats(shown))
 }
 
 /// A function of one float, on every boundary and on random values.
@@ -75,10 +73,10 @@ fn unary(
 }
 
 /// A list of one kind: bit patterns, moderate numbers, mixtures, subnormals, grey levels, zeros
-/// of both signs, or numbers that cancel all but their last bits.
+/// of both signs, numbers of very different sizes, or the largest; one in four cancels.
 pub fn list(random: &mut Random, length: u64) -> Vec<f64> {
     let kind = random.below(8);
-    let mut values: Vec<f64> = (0..length)
+    let values = (0..length)
         .map(|_| match kind {
             0 => any(random),
             1 => sized(random, -6, 10),
@@ -91,10 +89,17 @@ pub fn list(random: &mut Random, length: u64) -> Vec<f64> {
         })
         .collect();
     if random.below(4) == 0 {
-        for i in 1..values.len() {
-            if random.below(2) == 0 {
-                values[i] = near(random, -values[i - 1]);
-            }
+        cancelling(random, values)
+    } else {
+        values
+    }
+}
+
+/// Half of the values replaced by ones that cancel all but the last bits of the value before.
+fn cancelling(random: &mut Random, mut values: Vec<f64>) -> Vec<f64> {
+    for i in 1..values.len() {
+        if random.below(2) == 0 {
+            values[i] = near(random, -values[i - 1]);
         }
     }
     values
@@ -104,10 +109,7 @@ pub fn list(random: &mut Random, length: u64) -> Vec<f64> {
 pub fn rounded(random: &mut Random) -> f64 {
     match random.below(4) {
         0 => sized(random, -4, 56),
-        1 | 2 => {
-            let x = tie(random);
-            near(random, x)
-        }
+        1 | 2 => near_tie(random),
         _ => mixed(random),
     }
 }

@@ -57,26 +57,40 @@ impl Sample {
 pub fn write(dir: &Path) -> io::Result<usize> {
     let mut sample = Sample::default();
     let random = &mut Random::new(1);
-    for length in (0..=40).chain(0..=40).chain([64, 65, 100]) {
-        sample.pairwise_sum(&floats::list(random, length));
-    }
-    for x in LANDMARKS {
-        sample.round_output(x);
-        sample.round_output(-x);
-        sample.round(x);
-        sample.round(-x);
-        sample.rounded_product(x, 1.0);
-        sample.rounded_product(-x, 1.0);
-    }
-    for _ in 0..16 {
-        sample.round_output(floats::output(random));
-        sample.round(floats::rounded(random));
-        let (a, b) = floats::factors(random);
-        sample.rounded_product(a, b);
-        sample.rounded_product(random.pick(&LANDMARKS), random.pick(&LANDMARKS));
-    }
+    add_sums(&mut sample, random);
+    add_landmarks(&mut sample);
+    add_random(&mut sample, random);
     fs::create_dir_all(dir)?;
     fs::write(dir.join("stdin"), sample.calls)?;
     fs::write(dir.join("stdout"), sample.answers)?;
     Ok(sample.lines)
+}
+
+fn add_sums(sample: &mut Sample, random: &mut Random) {
+    // A sum that began from its first value would keep the sign of minus zeros.
+    let zeros = [1, 8, 9].map(|length| vec![-0.0; length]);
+    let lengths = (0..=40).chain(0..=40).chain([64, 65, 100]);
+    for values in lengths.map(|n| floats::list(random, n)).chain(zeros) {
+        sample.pairwise_sum(&values);
+    }
+}
+
+fn add_landmarks(sample: &mut Sample) {
+    // Just below 1.5, but the product in binary64 is 1.5.
+    sample.rounded_product(0.15, 10.0);
+    for x in LANDMARKS.into_iter().flat_map(|x| [x, -x]) {
+        sample.round_output(x);
+        sample.rounded_product(x, 1.0);
+        sample.round(x);
+    }
+}
+
+fn add_random(sample: &mut Sample, random: &mut Random) {
+    for _ in 0..16 {
+        let (a, b) = floats::factors(random);
+        sample.round_output(floats::output(random));
+        sample.rounded_product(a, b);
+        sample.rounded_product(random.pick(&LANDMARKS), random.pick(&LANDMARKS));
+        sample.round(floats::rounded(random));
+    }
 }

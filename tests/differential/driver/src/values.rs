@@ -59,13 +59,16 @@ pub const LANDMARKS: [f64; 46] = [
     f64::NAN,
 ];
 
-/// Every landmark with its neighbours, of both signs.
+/// Every landmark with its neighbours, of both signs, each once.
 pub fn boundaries() -> Vec<f64> {
-    LANDMARKS
+    let mut values: Vec<f64> = LANDMARKS
         .iter()
         .flat_map(|&x| [x.next_down(), x, x.next_up()])
         .flat_map(|x| [x, -x])
-        .collect()
+        .collect();
+    values.sort_by(f64::total_cmp);
+    values.dedup_by_key(|x| x.to_bits());
+    values
 }
 
 /// Any bit pattern.
