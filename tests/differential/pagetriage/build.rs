@@ -1,8 +1,10 @@
 //! Lays out the tree that src/lib.rs compiles: a link to each file of the Rust, unchanged, a link
-//! to each shim, and what is missing and only has to be there. A shim can't stand in for a file of
-//! the Rust, since a link is not made over another.
+//! to each shim, and what is missing and only has to be there. Nothing is made where a file of the
+//! Rust stands: neither a link nor a new file goes over another.
 
 use std::error::Error;
+use std::fs::File;
+use std::io::Write;
 use std::os::unix::fs::symlink;
 use std::path::{Path, PathBuf};
 use std::{env, fs};
@@ -49,7 +51,9 @@ fn main() -> Result<(), Box<dyn Error>> {
 fn write_absent_modules(dir: &Path) -> Result<(), Box<dyn Error>> {
     for (module, settings) in ABSENT_MODULES {
         let text = settings.map_or(String::new(), |name| format!("absent_settings!({name});\n"));
-        fs::write(dir.join(module).with_extension("rs"), text)?;
+        File::create_new(dir.join(module).with_extension("rs"))
+            .map_err(|e| format!("pixel/{module}.rs is not absent: {e}"))?
+            .write_all(text.as_bytes())?;
     }
     Ok(())
 }
@@ -59,7 +63,7 @@ fn write_empty_defaults(params: &str, dir: &Path) -> Result<(), Box<dyn Error>> 
     fs::create_dir(dir)?;
     for rest in params.split("include_str!(\"../params/").skip(1) {
         let (name, _) = rest.split_once('"').ok_or("params.rs names no file")?;
-        fs::write(dir.join(name), "")?;
+        File::create_new(dir.join(name))?;
     }
     Ok(())
 }
