@@ -1,0 +1,9 @@
+-- The laws of float steps that `math` and the crates above it cite.
+pub mod Value
+pub mod Ulp
+pub mod Bound
+pub mod Mean
+pub mod Sums
+pub mod Rounded
+pub mod Tests
+pub mod Cast

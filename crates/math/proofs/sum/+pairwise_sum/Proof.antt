@@ -1,0 +1,79 @@
+-- `math::sum::pairwise_sum` meets its contract, by the two sentences of its definition. The measure is the list's length, and either half of more than 8 values is shorter.
+-- Assumes nothing.
+use mathlib.Core.Path.{_≡_, sym, ap, ap₂, _∙_}
+use mathlib.Core.List.{List}
+use Prim.Native.Nat.{ℕ, _-_, _/_, _≤_, _<_, min}
+use native.Mathlib.Omega.{arith}
+use lib.ListN.{length, take, drop, length-take, length-drop}
+use lib.Ieee.{Float, binary64, add}
+use borrow.Author.Needs.{needs, scaled-fits}
+use borrow.Rule.Slice.PartAt.{part-to-end}
+use borrow.Fn.Kinds.{In}
+use borrow.Fn.PlainCycle.{Measures, is, falls, and}
+use Rattle.math.proofs.sum.pairwise_sum.Reads as pairwise-sum
+use Rattle.math.proofs.sum.pairwise_sum.Kinds as pairwise-sum-kinds
+use Rattle.math.proofs.sum.+pairwise_sum.Lts-pairwise_sum as pairwise-sum-lts
+use Rattle.math.proofs.sum.add_up.Reads as add-up-reads
+use Rattle.math.proofs.sum.+pairwise_sum.{statement}
+use Rattle.math.proofs.sum.+pairwise_sum.Tie.{close}
+use Rattle.math.specs.Sum.{pairwiseSum}
+use Rattle.math.proofs.Sums.{sum-of-short, sum-of-long}
+
+abbrev μ-pairwise-sum : Measures 1 pairwise-sum-kinds.ps ℕ
+μ-pairwise-sum κs a = length (a .0 .now)
+
+abbrev pairwise-sum-at : ℕ → In 1 pairwise-sum-kinds.ps
+pairwise-sum-at t = and 1 pairwise-sum-kinds.ps (is 1 pairwise-sum-kinds.ps μ-pairwise-sum t) pairwise-sum.Pre
+
+abbrev pairwise-sum-below : ℕ → In 1 pairwise-sum-kinds.ps
+pairwise-sum-below t = and 1 pairwise-sum-kinds.ps (falls 1 pairwise-sum-kinds.ps _<_ μ-pairwise-sum t) pairwise-sum.Pre
+
+half-lt : (n : ℕ) → 8 < n → n / 2 < n
+half-lt n h = omega arith
+
+half-le : (n : ℕ) → n / 2 ≤ n
+half-le n = omega arith
+
+front-length : (xs : List Float) → length xs / 2 ≡ length (take (length xs / 2) xs)
+front-length xs = let e = length-take (length xs / 2) xs in omega arith
+
+front-shorter : (t : ℕ) (xs : List Float) → length xs ≡ t → 8 < length xs → length (take (length xs / 2) xs) < t
+front-shorter t xs e h = let l = length-take (length xs / 2) xs in omega arith
+
+back-shorter : (t : ℕ) (xs : List Float) → length xs ≡ t → 8 < length xs → length (take (length xs - length xs / 2) (drop (length xs / 2) xs)) < t
+back-shorter t xs e h = rw part-to-end (let l = length-drop (length xs / 2) xs in omega arith)
+
+pairwise-sum-add-up-requires : (t : ℕ) → pairwise-sum-lts.Need-add-up-requires (add-up-reads.Asked, add-up-reads.Learnt, pairwise-sum-below t, pairwise-sum.Post) (pairwise-sum-at t) pairwise-sum.Post
+pairwise-sum-add-up-requires t c κs = tt
+
+pairwise-sum-returns : (t : ℕ) → pairwise-sum-lts.Need-returns (add-up-reads.Asked, add-up-reads.Learnt, pairwise-sum-below t, pairwise-sum.Post) (pairwise-sum-at t) pairwise-sum.Post
+pairwise-sum-returns t c = c .add-up .ensures ∙ sym (sum-of-short (c .before .before .before .args .values .now) (c .before .if1 .taken))
+
+pairwise-sum-slice-aggregate-pairwise-sum : (t : ℕ) → pairwise-sum-lts.Need-slice-aggregate-pairwise-sum (add-up-reads.Asked, add-up-reads.Learnt, pairwise-sum-below t, pairwise-sum.Post) (pairwise-sum-at t) pairwise-sum.Post
+pairwise-sum-slice-aggregate-pairwise-sum t c = front-length (c .before .before .before .args .values .now)
+
+pairwise-sum-pairwise-sum-requires : (t : ℕ) → pairwise-sum-lts.Need-pairwise-sum-requires (add-up-reads.Asked, add-up-reads.Learnt, pairwise-sum-below t, pairwise-sum.Post) (pairwise-sum-at t) pairwise-sum.Post
+pairwise-sum-pairwise-sum-requires t c κs = (front-shorter t (c .before .before .before .args .values .now) (c .before .before .before .pre .0) (c .before .if1 .left), tt)
+
+pairwise-sum-mul-pairwise-sum : (t : ℕ) → pairwise-sum-lts.Need-mul-pairwise-sum (add-up-reads.Asked, add-up-reads.Learnt, pairwise-sum-below t, pairwise-sum.Post) (pairwise-sum-at t) pairwise-sum.Post
+pairwise-sum-mul-pairwise-sum t c = let xs = c .before .before .before .before .args .values .now in scaled-fits (length xs / 2) (length xs) 8 (half-lt (length xs) (c .before .before .if1 .left)) (c .before .before .before .before .good .0 .1)
+
+pairwise-sum-sub-pairwise-sum : (t : ℕ) → pairwise-sum-lts.Need-sub-pairwise-sum (add-up-reads.Asked, add-up-reads.Learnt, pairwise-sum-below t, pairwise-sum.Post) (pairwise-sum-at t) pairwise-sum.Post
+pairwise-sum-sub-pairwise-sum t c = half-le (length (c .before .before .before .before .args .values .now))
+
+pairwise-sum-part-pairwise-sum-start : (t : ℕ) → pairwise-sum-lts.Need-part-pairwise-sum-start (add-up-reads.Asked, add-up-reads.Learnt, pairwise-sum-below t, pairwise-sum.Post) (pairwise-sum-at t) pairwise-sum.Post
+pairwise-sum-part-pairwise-sum-start t c = search needs
+
+pairwise-sum-part-pairwise-sum-end : (t : ℕ) → pairwise-sum-lts.Need-part-pairwise-sum-end (add-up-reads.Asked, add-up-reads.Learnt, pairwise-sum-below t, pairwise-sum.Post) (pairwise-sum-at t) pairwise-sum.Post
+pairwise-sum-part-pairwise-sum-end t c = search needs
+
+pairwise-sum-pairwise-sum-requires-2 : (t : ℕ) → pairwise-sum-lts.Need-pairwise-sum-requires-2 (add-up-reads.Asked, add-up-reads.Learnt, pairwise-sum-below t, pairwise-sum.Post) (pairwise-sum-at t) pairwise-sum.Post
+pairwise-sum-pairwise-sum-requires-2 t c κs = (back-shorter t (c .before .before .before .before .before .args .values .now) (c .before .before .before .before .before .pre .0) (c .before .before .before .if1 .left), tt)
+
+pairwise-sum-returns-2 : (t : ℕ) → pairwise-sum-lts.Need-returns-2 (add-up-reads.Asked, add-up-reads.Learnt, pairwise-sum-below t, pairwise-sum.Post) (pairwise-sum-at t) pairwise-sum.Post
+pairwise-sum-returns-2 t c =
+    let values = c .before .before .before .before .before .before .args .values .now in
+    ap₂ (add binary64) (c .before .before .pairwise-sum .ensures) (c .pairwise-sum2 .ensures ∙ ap pairwiseSum (part-to-end values (length values / 2))) ∙ sym (sum-of-long values (c .before .before .before .before .if1 .left))
+
+pub +pairwise-sum-spec : {M : Type 1} → statement M
++pairwise-sum-spec = close μ-pairwise-sum (λ t. pairwise-sum-lts.spec (add-up-reads.Asked, add-up-reads.Learnt, pairwise-sum-below t, pairwise-sum.Post) (pairwise-sum-at t) pairwise-sum.Post (pairwise-sum-add-up-requires t) (pairwise-sum-returns t) (pairwise-sum-slice-aggregate-pairwise-sum t) (pairwise-sum-pairwise-sum-requires t) (pairwise-sum-mul-pairwise-sum t) (pairwise-sum-sub-pairwise-sum t) (pairwise-sum-part-pairwise-sum-start t) (pairwise-sum-part-pairwise-sum-end t) (pairwise-sum-pairwise-sum-requires-2 t) (pairwise-sum-returns-2 t))

