@@ -1,0 +1,86 @@
+// The stored calls of float steps. A float is the 16 digits of its bits; a NaN is 7ff8000000000000.
+use crate::words;
+use crate::words::Word;
+
+fn float_of(bits: u64) -> f64 {
+    if 0x7ff0_0000_0000_0000 < bits % 0x8000_0000_0000_0000 {
+        0.0 / 0.0
+    } else {
+        f64::from_bits(bits)
+    }
+}
+
+fn bits_of(x: f64) -> u64 {
+    if x != x {
+        0x7ff8_0000_0000_0000
+    } else {
+        f64::to_bits(x)
+    }
+}
+
+// The 64 bits of z in two's complement.
+fn bits_of_whole(z: i64) -> u64 {
+    if z < 0 {
+        u64::MAX - ((-1 - z) as u64)
+    } else {
+        z as u64
+    }
+}
+
+// Fills `out` with the floats of the words from `at` on, and returns the place past them.
+fn read_floats(text: &[u8], at: usize, out: &mut [f64]) -> usize {
+    let mut next = at;
+    let mut i = 0;
+    while i < out.len() {
+        let w = words::read_word(text, next);
+        out[i] = float_of(w.value);
+        next = w.next;
+        i += 1;
+    }
+    next
+}
+
+pub fn pairwise_sum(text: &[u8], at: usize) -> Word {
+    let mut values = [0.0f64; 1024];
+    let count = words::read_word(text, at);
+    sum_of(text, count.next, count.value, &mut values)
+}
+
+// The sum of the next `count` floats, or of as many as `values` has room for.
+fn sum_of(text: &[u8], at: usize, count: u64, values: &mut [f64]) -> Word {
+    let n = words::at_most(count, values.len());
+    sum_all(text, at, &mut values[..n])
+}
+
+fn sum_all(text: &[u8], at: usize, values: &mut [f64]) -> Word {
+    let next = read_floats(text, at, values);
+    Word {
+        value: bits_of(math::sum::pairwise_sum(values)),
+        next,
+    }
+}
+
+pub fn round_output(text: &[u8], at: usize) -> Word {
+    let x = words::read_word(text, at);
+    Word {
+        value: bits_of(math::rounding::round_output(float_of(x.value))),
+        next: x.next,
+    }
+}
+
+pub fn rounded_product(text: &[u8], at: usize) -> Word {
+    let a = words::read_word(text, at);
+    let b = words::read_word(text, a.next);
+    Word {
+        value: bits_of_whole(math::rounding::rounded_product(float_of(a.value), float_of(b.value))),
+        next: b.next,
+    }
+}
+
+pub fn round(text: &[u8], at: usize) -> Word {
+    let x = words::read_word(text, at);
+    Word {
+        value: bits_of(math::rounding::round(float_of(x.value))),
+        next: x.next,
+    }
+}

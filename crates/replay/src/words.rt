@@ -1,0 +1,48 @@
+// The words of the stored calls: hex digits, ended by one byte that is none.
+ghost use Prim.Native.Nat.{_≤_};
+
+// A word's value, and the place past it and the byte that ends it.
+pub struct Word {
+    pub value: u64,
+    pub next: usize,
+}
+
+// The value of a hex digit, and 16 for any other byte.
+fn digit(b: u8) -> u64
+    ensures { λ r. ⌜ r ≤ 16 ⌝ }
+{
+    let d = b as u64;
+    if d < 48 {
+        16
+    } else if d < 58 {
+        d - 48
+    } else if d < 97 {
+        16
+    } else if d < 103 {
+        d - 87
+    } else {
+        16
+    }
+}
+
+// The word at `at`, of which the last 16 digits count; 0 at the end of the text.
+pub fn read_word(text: &[u8], at: usize) -> Word {
+    let mut value: u64 = 0;
+    let mut i = at;
+    while i < text.len() {
+        let d = digit(text[i]);
+        i += 1;
+        if 16 <= d {
+            return Word { value, next: i };
+        }
+        value = value % 0x1000_0000_0000_0000 * 16 + d;
+    }
+    Word { value, next: i }
+}
+
+// A count, for a list that has room for `room` entries.
+pub fn at_most(n: u64, room: usize) -> usize
+    ensures { λ r. ⌜ r ≤ room ⌝ }
+{
+    if n < room as u64 { n as usize } else { room }
+}
