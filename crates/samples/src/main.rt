@@ -1,0 +1,17 @@
+// The sample forms of document 01 that are tried by running, and the slips seen in such ports.
+// `stdout` has a line for each, and every one of them ends in "yes".
+mod floats;
+
+fn main() {
+    floats::run();
+}
+
+// Writes a line: what was tried, and whether it came out right.
+fn show(what: &[u8], right: bool) {
+    io::write_all(libc::STDOUT_FILENO, what);
+    if right {
+        io::write_all(libc::STDOUT_FILENO, b": yes\n");
+    } else {
+        io::write_all(libc::STDOUT_FILENO, b": no\n");
+    }
+}
