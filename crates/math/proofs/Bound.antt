@@ -7,14 +7,14 @@ use native.Mathlib.Omega.{arith}
 use mathlib.Core.Bool.{Bool, true, false, not, _&&_, cond, Bool·beq}
 use lib.Dec.{T, ltb}
 use lib.Pow.{pow-add, pow-pos, pow-mono}
-use lib.Ieee.{Float, nan, inf, fin, Format, prec, emax, low, up, down, unlike, round, sum, add, sub, mul, div, neg}
+use lib.Ieee.{Float, nan, inf, fin, Format, prec, emax, low, up, down, unlike, round, sum, add, sub, mul, div, neg, lt, isNan}
 use lib.Ieee.Exact.{HasValue}
 use lib.Ieee.Fits.{reach, down-pos}
 use lib.Ieee.Nearest.{closest}
 use lib.Ieee.Order.{drop}
 use lib.Ieee.Positive.{num, den, den-pos, first-pos}
 use lib.Ieee.Scale.{grid, overflow, finite}
-use Rattle.math.specs.Select.{negative}
+use Rattle.math.specs.Select.{negative, absolute, clampTo, minimumNumber, maximumNumber}
 use Rattle.math.proofs.Value.{mul-value, div-value, add-value, sub-value}
 use Rattle.math.proofs.Ulp.{Half, closest-half, round-value, unit-le}
 
@@ -128,3 +128,19 @@ neg-at-most a (fin s m e) h = record { finite = tt; size = h .size }
 pub sub-at-most : (f : Format) (a b : ℕ) (x y : Float) → AtMost a x → AtMost b y → a + b < 2 ^ prec f → AtMost (a + b) (sub f x y)
 unfolding sub
 sub-at-most f a b x y h k N = add-at-most f a b x (neg y) h (neg-at-most b y k) N
+
+-- ---- what picks one of its operands
+
+pub clamp-at-most : {a : ℕ} {limit x : Float} → AtMost a limit → AtMost a x → AtMost a (clampTo limit x)
+clamp-at-most {a} {limit} {x} h k = pick (lt x (neg limit)) (neg-at-most a limit h) (pick (lt limit x) h k)
+
+pub min-at-most : {a : ℕ} {x y : Float} → AtMost a x → AtMost a y → AtMost a (minimumNumber x y)
+min-at-most {a} {x} {y} h k = pick (isNan x) k (pick (isNan y) h (pick (lt x y) h (pick (lt y x) k (pick (negative x) h k))))
+
+pub max-at-most : {a : ℕ} {x y : Float} → AtMost a x → AtMost a y → AtMost a (maximumNumber x y)
+max-at-most {a} {x} {y} h k = pick (isNan x) k (pick (isNan y) h (pick (lt x y) k (pick (lt y x) h (pick (negative x) k h))))
+
+pub abs-at-most : {a : ℕ} (x : Float) → AtMost a x → AtMost a (absolute x)
+abs-at-most nan h = h
+abs-at-most (inf s) h = absurd (h .finite)
+abs-at-most (fin s m e) h = record { finite = tt; size = h .size }

@@ -4,6 +4,8 @@ pub mod Ulp
 pub mod Bound
 pub mod Mean
 pub mod Sums
+pub mod SumBound
 pub mod Rounded
+pub mod Order
 pub mod Tests
 pub mod Cast

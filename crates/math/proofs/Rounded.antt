@@ -2,7 +2,7 @@
 -- Assumes nothing.
 use mathlib.Core.Path.{_≡_, refl, sym, ap, _∙_, subst}
 use Prim.Native.Nat.{ℕ, zero, suc, _+_, _-_, _*_, _/_, _^_, _≤_, _<_, min, zero-le}
-use native.Mathlib.Nat.{le-refl, le-trans, le-of-eq, lt-of-lt-of-le, lt-of-le-of-lt, lt-of-mul-lt-mul-right, mul-one, one-mul, zero-mul, mul-assoc, mul-comm, mul-left-comm, mul-right-comm, mul-pos, mul-le-mul-left, mul-le-mul-right, mul-lt-mul-of-pos-right, pow-succ', add-div-right, div-div-eq-div-mul, div-lt-iff-lt-mul, div-eq-of-lt, two-mul, add-mul, not-le-of-lt, lt-irrefl, div-one, zero-lt-suc, le-add-right, le-of-lt}
+use native.Mathlib.Nat.{le-refl, le-trans, le-of-eq, lt-of-lt-of-le, lt-of-le-of-lt, lt-of-mul-lt-mul-right, mul-one, one-mul, zero-mul, mul-assoc, mul-comm, mul-left-comm, mul-right-comm, mul-pos, mul-le-mul-left, mul-le-mul-right, mul-lt-mul-of-pos-right, pow-succ', add-div-right, div-div-eq-div-mul, div-lt-iff-lt-mul, div-eq-of-lt, two-mul, add-mul, not-le-of-lt, lt-irrefl, div-one, zero-lt-suc, le-add-right, le-of-lt, div-mul-le-self, lt-div-mul-add}
 use native.Mathlib.Omega.{arith}
 use mathlib.Core.Bool.{Bool, true, false, not, _&&_, cond, true≢false}
 use lib.IntN.{ℤ, pos, negsuc}
@@ -61,6 +61,16 @@ double-value m e p A =
 
 pub half-of-double : (a c : ℕ) → 0 < c → (2 * a / c + 1) / 2 ≡ nearestWhole a c
 half-of-double a c C = ap (λ (z : ℕ). z / 2) (sym (add-div-right (2 * a) C)) ∙ div-div-eq-div-mul (2 * a + c) c 2 ∙ ap (λ (z : ℕ). (2 * a + c) / z) (mul-comm c 2)
+
+-- it is nearest: a / c is at most a half above it and less than a half below the next, so a half goes upward
+pub nearest-whole : (a c : ℕ) → 0 < c → (2 * nearestWhole a c * c ≤ 2 * a + c) × (2 * a < 2 * nearestWhole a c * c + c)
+nearest-whole a c C =
+    let n = nearestWhole a c in
+    let C2 : 0 < 2 * c = mul-pos (lit< tt) C in
+    let low : n * (2 * c) ≤ 2 * a + c = div-mul-le-self (2 * a + c) (2 * c) in
+    let high : 2 * a + c < n * (2 * c) + 2 * c = lt-div-mul-add C2 in
+    let e : n * (2 * c) ≡ 2 * n * c = sym (mul-assoc n 2 c) ∙ ap (λ (z : ℕ). z * c) (mul-comm n 2) in
+    (omega arith, omega arith)
 
 pub nearest-le : (a c n : ℕ) → 0 < c → a ≤ n * c → nearestWhole a c ≤ n
 nearest-le a c n C h = below (div-lt-iff-lt-mul (mul-pos (lit< tt) C) .1 (room (le-trans (mul-le-mul-left 2 h) (le-of-eq (sym (mul-assoc 2 n c))))))

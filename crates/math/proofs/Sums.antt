@@ -2,7 +2,7 @@
 -- A list is longer than either half, so as many cuts as it has values are enough. Assumes nothing.
 use mathlib.Core.Path.{_≡_, refl, sym, ap, ap₂, _∙_, subst}
 use Prim.Native.Nat.{ℕ, zero, suc, _+_, _-_, _*_, _/_, _^_, _≤_, _<_, min}
-use native.Mathlib.Nat.{le-refl, le-trans, le-of-eq, le-suc, le-add-left, le-add-right, mul-one, zero-add, add-zero, add-assoc}
+use native.Mathlib.Nat.{le-refl, le-trans, le-of-eq, le-suc, le-add-left, le-add-right, mul-one, zero-mul, suc-mul, zero-add, add-zero, add-assoc}
 use native.Mathlib.Omega.{arith}
 use native.Mathlib.Numerals.{add-one}
 use mathlib.Core.Bool.{Bool, true, false, cond}
@@ -152,3 +152,21 @@ halved-whole (suc d) false ns h =
 -- a pairwise sum of whole numbers whose total is at most 2 ^ 53 is that total
 pub sum-whole : (ns : List ℕ) → total ns ≤ 2 ^ 53 → pairwiseSum (map whole ns) ≡ whole (total ns)
 sum-whole ns h = halved-whole (length (map whole ns)) (short (map whole ns)) ns h
+
+-- every number is at most b
+abbrev pub EachLe : ℕ → List ℕ → Type 0
+EachLe b [] = Unit
+EachLe b (n ∷ ns) = (n ≤ b) × EachLe b ns
+
+pub total-le : (b : ℕ) (ns : List ℕ) → EachLe b ns → total ns ≤ length ns * b
+unfolding total
+total-le b [] h = le-of-eq (sym (zero-mul b))
+total-le b (n ∷ ns) h =
+    let l = total-le b ns (h .1) in
+    let k = h .0 in
+    let e : suc (length ns) * b ≡ length ns * b + b = suc-mul (length ns) b in
+    omega arith
+
+-- a pairwise sum of up to 8,192 numbers from 0 to 255
+pub sum-bytes : (ns : List ℕ) → EachLe 255 ns → length ns ≤ 8192 → pairwiseSum (map whole ns) ≡ whole (total ns)
+sum-bytes ns h k = sum-whole ns (let l = total-le 255 ns h in omega arith)
