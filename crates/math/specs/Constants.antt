@@ -28,7 +28,7 @@ million = ofBits binary64 0x412e_8480_0000_0000
 abbrev pub twoTo52 : Float
 twoTo52 = ofBits binary64 0x4330_0000_0000_0000
 
--- a number written as the fraction a / b
+-- the number that is written as the fraction a / b
 abbrev pub fraction : ℕ → ℕ → Float
 fraction a b = round binary64 false a b
 
@@ -36,30 +36,6 @@ pub zero-is : zero ≡ fraction 0 1
 unfolding ofBits round
 zero-is = refl
 
-pub three-tenths-is : threeTenths ≡ fraction 3 10
+pub constants-are : (threeTenths ≡ fraction 3 10) × (half ≡ fraction 1 2) × (sixteenTenths ≡ fraction 16 10) × (two ≡ fraction 2 1) × (ten ≡ fraction 10 1) × (million ≡ fraction 1_000_000 1) × (twoTo52 ≡ fraction (2 ^ 52) 1)
 unfolding ofBits round
-three-tenths-is = refl
-
-pub half-is : half ≡ fraction 1 2
-unfolding ofBits round
-half-is = refl
-
-pub sixteen-tenths-is : sixteenTenths ≡ fraction 16 10
-unfolding ofBits round
-sixteen-tenths-is = refl
-
-pub two-is : two ≡ fraction 2 1
-unfolding ofBits round
-two-is = refl
-
-pub ten-is : ten ≡ fraction 10 1
-unfolding ofBits round
-ten-is = refl
-
-pub million-is : million ≡ fraction 1_000_000 1
-unfolding ofBits round
-million-is = refl
-
-pub two-to-52-is : twoTo52 ≡ fraction (2 ^ 52) 1
-unfolding ofBits round
-two-to-52-is = refl
+constants-are = (refl, refl, refl, refl, refl, refl, refl)

@@ -27,6 +27,6 @@ halved (suc d) false xs =
     add binary64 (halved d (short front) front) (halved d (short back) back)
 
 -- Up to 8 values added from 0.0 left to right; a longer list is cut at half its length, rounded down, and each half summed the same way.
--- There are always cuts enough: `sum-of-short` and `sum-of-long` below are this sentence.
+-- There are always cuts enough: the laws `sum-of-short` and `sum-of-long` (proofs/Sums.antt) are this sentence.
 abbrev pub pairwiseSum : List Float → Float
 pairwiseSum xs = halved (length xs) (short xs) xs
