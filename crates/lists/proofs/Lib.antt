@@ -1,0 +1,3 @@
+-- Laws of lists that several crates use.
+pub mod Written
+pub mod Keep

@@ -1,0 +1,2 @@
+-- Why the code's listings are the closed sets.
+pub mod Roots

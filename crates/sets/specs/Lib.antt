@@ -1,0 +1,3 @@
+-- Closed sets of indexes, and the parents by which the code finds them.
+pub mod Closed
+pub mod Parents
