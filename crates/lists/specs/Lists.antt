@@ -1,5 +1,5 @@
 -- Lists of indexes, and lent lists that are written from the front.
-use mathlib.Core.Bool.{Bool, cond}
+use mathlib.Core.Bool.{Bool, false, cond, _||_}
 use mathlib.Core.List.{List, [], _∷_, _++_, List·Memᴰ}
 use Prim.Native.Nat.{ℕ, zero, suc}
 use lib.ListN.{length, drop}
@@ -18,6 +18,11 @@ module _ {A : Type 0} where
   abbrev pub keep : (A → Bool) → List A → List A
   keep q [] = []
   keep q (x ∷ xs) = cond (q x) (x ∷ keep q xs) (keep q xs)
+
+  -- Does an entry pass the test?
+  abbrev pub any : (A → Bool) → List A → Bool
+  any q [] = false
+  any q (x ∷ xs) = q x || any q xs
 
   -- The lists of a list, strung together.
   abbrev pub concat : List (List A) → List A

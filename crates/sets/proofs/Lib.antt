@@ -1,2 +1,8 @@
 -- Why the code's listings are the closed sets.
 pub mod Roots
+pub mod Chains
+pub mod Represents
+pub mod Joins
+pub mod Pairs
+pub mod Ascending
+pub mod Classes

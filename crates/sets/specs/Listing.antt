@@ -1,0 +1,39 @@
+-- Listings: the closed sets in a definition that computes, and how a listing stands in lent lists.
+use mathlib.Core.Bool.{Bool, _||_}
+use mathlib.Core.List.{List, [], _∷_, map}
+use Prim.Native.Nat.{ℕ, zero, suc, _+_}
+use lib.Dec.{eqb}
+use lib.ListN.{length, getD}
+use Rattle.lists.specs.Lists.{below, keep, any}
+
+-- A set with all indexes below n that touch a member of it, either way round.
+abbrev pub grow : ℕ → (ℕ → ℕ → Bool) → List ℕ → List ℕ
+grow n touch s = keep (λ j. any (λ i. eqb i j || (touch i j || touch j i)) s) (below n)
+
+-- A set grown k times.
+unfoldable pub grown : ℕ → (ℕ → ℕ → Bool) → ℕ → List ℕ → List ℕ
+grown n touch zero s = s
+grown n touch (suc k) s = grow n touch (grown n touch k s)
+
+-- The closed set of i: what i grows to until it stays, for which n times are enough.
+unfoldable pub closedSet : ℕ → (ℕ → ℕ → Bool) → ℕ → List ℕ
+unfolding grown
+closedSet n touch i = grown n touch n (i ∷ [])
+
+-- The closed sets of the indexes below n, by smallest index: that of each index which is the first of its own.
+unfoldable pub closedSets : ℕ → (ℕ → ℕ → Bool) → List (List ℕ)
+unfolding closedSet
+closedSets n touch = map (closedSet n touch) (keep (λ i. eqb (getD (closedSet n touch i) 0 0) i) (below n))
+
+-- The indexes below n of which f is r, ascending.
+abbrev pub classOf : ℕ → (ℕ → ℕ) → ℕ → List ℕ
+classOf n f r = keep (λ i. eqb (f i) r) (below n)
+
+-- The indexes below n in sets of equal f, by smallest index, where f gives each the smallest of its set.
+abbrev pub classes : ℕ → (ℕ → ℕ) → List (List ℕ)
+classes n f = map (classOf n f) (keep (λ r. eqb (f r) r) (below n))
+
+-- The end of each set, where the sets are strung together from place k on.
+abbrev pub endsFrom : ℕ → List (List ℕ) → List ℕ
+endsFrom k [] = []
+endsFrom k (s ∷ ss) = (k + length s) ∷ endsFrom (k + length s) ss
