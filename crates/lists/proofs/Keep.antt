@@ -109,3 +109,7 @@ pub getD-map : {A : Type 0} (f : ℕ → A) (s : List ℕ) (k : ℕ) (d : A) →
 getD-map f [] k d h = absurd (not-suc-le-zero h)
 getD-map f (x ∷ xs) zero d h = refl
 getD-map f (x ∷ xs) (suc k) d h = getD-map f xs k d (le-of-suc-le-suc h)
+
+pub map-same : {A : Type 0} (f g : ℕ → A) (s : List ℕ) → ((i : ℕ) → In s i → f i ≡ g i) → map f s ≡ map g s
+map-same f g [] h = refl
+map-same f g (x ∷ xs) h = ap₂ _∷_ (h x (List·Memᴰ·head refl)) (map-same f g xs (λ i m. h i (List·Memᴰ·tail m)))

@@ -3,9 +3,9 @@ use mathlib.Core.Path.{_≡_, refl, sym, ap, ap₂, _∙_}
 use mathlib.Core.Bool.{Bool, true, false, cond}
 use mathlib.Core.Logic.{_⊎_, inl, inr, ⊎-elim}
 use mathlib.Core.List.{List, [], _∷_, _++_, List·Memᴰ·head, List·Memᴰ·tail, List·Memᴰ·cases-cons, List·Memᴰ·append-cases, List·Memᴰ·eq-of-singleton, List·Memᴰ·not-nil}
-use Prim.Native.Nat.{ℕ, zero, suc, _≤_, _<_}
-use native.Mathlib.Nat.{not-suc-le-zero, le-of-suc-le-suc, le-antisymm, lt-irrefl}
-use native.Mathlib.Decide.{decLt}
+use Prim.Native.Nat.{ℕ, zero, suc, _≤_, _<_, zero-le, suc-le-suc}
+use native.Mathlib.Nat.{not-suc-le-zero, le-of-suc-le-suc, le-antisymm, le-step}
+use native.Mathlib.Decide.{decLt, ℕ-discrete}
 use native.Mathlib.Omega.{arith}
 use lib.ListN.{length, getD}
 use Rattle.lists.specs.Lists.{below, keep, In}
@@ -64,3 +64,21 @@ one-place {s} a k l hk hl e = go (decLt k l) (decLt l k)
 pub first-least : {s : List ℕ} → Ascending s → (i : ℕ) → In s i → In s (getD s 0 0) × (getD s 0 0 ≤ i)
 first-least nothing i m = elim m [ ]
 first-least (before {x} {xs} l a) i m = (List·Memᴰ·head refl, first-le (before l a) i m)
+
+-- a list of members of another is no longer, and is the other if it is no shorter
+pub sublist : {s t : List ℕ} → Ascending s → Ascending t → ((i : ℕ) → In s i → In t i) → (length s ≤ length t) × (length t ≤ length s → s ≡ t)
+sublist nothing nothing h = (zero-le, λ l. refl)
+sublist nothing (before l b) h = (zero-le, λ m. absurd (not-suc-le-zero m))
+sublist (before {x} l a) nothing h = absurd (List·Memᴰ·not-nil (h x (List·Memᴰ·head refl)))
+sublist (before {x} {xs} l a) (before {x = y} {xs = ys} m b) h =
+    elim (ℕ-discrete x y) [
+      | yes e ↦
+          let r = sublist a b (λ i w. ⊎-elim (λ (f : i ≡ y). absurd (let g = l i w in omega arith)) (λ v. v) (List·Memᴰ·cases-cons (h i (List·Memᴰ·tail w)))) in
+          (suc-le-suc (r .0), λ w. ap₂ _∷_ e (r .1 (le-of-suc-le-suc w)))
+      | no e ↦
+          let y<x : y < x = ⊎-elim (λ (f : x ≡ y). absurd (e f)) (m x) (List·Memᴰ·cases-cons (h x (List·Memᴰ·head refl))) in
+          let r =
+          sublist (before l a) b
+          (λ i w. ⊎-elim (λ (f : i ≡ y). absurd (let g = first-le (before l a) i w in omega arith)) (λ v. v) (List·Memᴰ·cases-cons (h i w))) in
+          (le-step (r .0), λ w. absurd (let g = r .0 in omega arith))
+    ]

@@ -10,7 +10,7 @@ use lib.Dec.{eqb}
 use lib.ListN.{length, getD, length-map}
 use borrow.Author.Tests.{eqb-true, eq-eqb}
 use Rattle.lists.specs.Lists.{below, keep, In}
-use Rattle.lists.proofs.Keep.{in-below, below-in, kept-in, in-kept, in-at, at-in, getD-map, keep-below-same}
+use Rattle.lists.proofs.Keep.{in-below, below-in, kept-in, in-kept, in-at, at-in, getD-map, keep-below-same, map-same}
 use Rattle.sets.specs.Closed.{Below, Touching, Chain, here, next, Ascending, Closed, Once, Listed}
 use Rattle.sets.specs.Listing.{classOf, classes}
 use Rattle.sets.proofs.Chains.{chain-step, chain-map, chain-carry, chain-inside}
@@ -98,3 +98,10 @@ module _ {n : ℕ} {R : ℕ → ℕ → Type 0} {f : ℕ → ℕ} (F : Represent
         closed = λ k h. let w = root-at k h in rw (class-at k h) (class-closed (getD roots k 0) (w .1) (w .2));
         once = listed-once;
       }
+
+-- functions that agree below n have the same classes
+pub classes-same : (n : ℕ) (f g : ℕ → ℕ) → ((i : ℕ) → i < n → f i ≡ g i) → classes n f ≡ classes n g
+classes-same n f g h =
+    map-same (classOf n f) (classOf n g) (keep (λ r. eqb (f r) r) (below n))
+    (λ r m. keep-below-same (λ i. eqb (f i) r) (λ i. eqb (g i) r) n (λ i l. ap (λ (x : ℕ). eqb x r) (h i l)))
+    ∙ ap (map (classOf n g)) (keep-below-same (λ r. eqb (f r) r) (λ r. eqb (g r) r) n (λ r l. ap (λ (x : ℕ). eqb x r) (h r l)))

@@ -6,3 +6,4 @@ pub mod Joins
 pub mod Pairs
 pub mod Ascending
 pub mod Classes
+pub mod Grown
