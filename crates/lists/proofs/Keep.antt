@@ -5,8 +5,9 @@ use mathlib.Core.Logic.{_⊎_, inl, inr, ⊎-elim}
 use mathlib.Core.List.{List, [], _∷_, _++_, map, append-assoc, List·Memᴰ, List·Memᴰ·head, List·Memᴰ·tail, Memᴰ·append-left, Memᴰ·append-right, List·Memᴰ·append-cases, List·Memᴰ·eq-of-singleton, List·Memᴰ·cases-cons}
 use Prim.Native.Nat.{ℕ, zero, suc, _+_, _≤_, _<_, zero-le, suc-le-suc}
 use native.Mathlib.Nat.{not-suc-le-zero, le-of-suc-le-suc, eq-or-lt-of-le, le-step, lt-suc-self}
+use native.Mathlib.Numerals.{add-one}
 use native.Mathlib.Omega.{arith}
-use lib.ListN.{length, getD, length-append, List·getD-append}
+use lib.ListN.{length, getD, length-append, length-map, List·getD-append}
 use lib.Seq.{getD-at}
 use Rattle.lists.specs.Lists.{below, keep, any, concat, In}
 
@@ -113,3 +114,14 @@ getD-map f (x ∷ xs) (suc k) d h = getD-map f xs k d (le-of-suc-le-suc h)
 pub map-same : {A : Type 0} (f g : ℕ → A) (s : List ℕ) → ((i : ℕ) → In s i → f i ≡ g i) → map f s ≡ map g s
 map-same f g [] h = refl
 map-same f g (x ∷ xs) h = ap₂ _∷_ (h x (List·Memᴰ·head refl)) (map-same f g xs (λ i m. h i (List·Memᴰ·tail m)))
+
+-- the values of f at the numbers below n
+module _ {A : Type 0} (f : ℕ → A) where
+  pub length-values : (n : ℕ) → length (map f (below n)) ≡ n
+  length-values n = length-map (below n) f ∙ length-below n
+
+  pub getD-values : (n i : ℕ) (d : A) → i < n → getD (map f (below n)) i d ≡ f i
+  getD-values n i d l = getD-map f (below n) i d (rw (length-below n) l) ∙ ap f (getD-below n i l)
+
+  pub values-more : (n : ℕ) → map f (below (n + 1)) ≡ map f (below n) ++ (f n ∷ [])
+  values-more n = rw (add-one n) (map-append f (below n) (n ∷ []))

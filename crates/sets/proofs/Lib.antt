@@ -7,3 +7,4 @@ pub mod Pairs
 pub mod Ascending
 pub mod Classes
 pub mod Grown
+pub mod Reordered

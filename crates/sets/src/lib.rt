@@ -2,9 +2,10 @@
 // them only by what the contracts say of roots.
 ghost use mathlib.Core.Path.{_≡_};
 ghost use mathlib.Core.Bool.{true};
+ghost use mathlib.Core.List.{map};
 ghost use Prim.Native.Nat.{_≤_, _<_};
 ghost use Rattle.lists.specs.Lists.{below, written};
-ghost use Rattle.sets.specs.Parents.{Room, Parents, Found, Joined};
+ghost use Rattle.sets.specs.Parents.{Room, Parents, root, Found, Joined};
 
 // Each index below n alone: its own parent.
 pub fn begin(parents: &mut [u32], n: usize)
@@ -55,5 +56,18 @@ pub fn join_if(parents: &mut [u32], n: usize, a: usize, b: usize, touch: bool)
 {
     if touch {
         join(parents, n, a, b);
+    }
+}
+
+// Each index below n points at its root, the smallest index of its set.
+pub fn flatten(parents: &mut [u32], n: usize)
+    requires { ⌜ Parents n (now parents) ⌝ }
+    ensures { λ _. ⌜ now (parents .exit) ≡ written (map (root (now (parents .entry))) (below n)) (now (parents .entry)) ⌝ }
+{
+    let mut i = 0;
+    while i < n {
+        let up = parents[i] as usize;
+        parents[i] = parents[up];
+        i += 1;
     }
 }
