@@ -1,3 +1,4 @@
 -- Laws of lists that several crates use.
 pub mod Written
 pub mod Keep
+pub mod Sizes

@@ -1,11 +1,11 @@
 -- Laws of a lent list that is written from the front: nothing yet, one more entry, and what stands where.
 use mathlib.Core.Path.{_≡_, refl, sym, ap, ap₂, _∙_}
-use mathlib.Core.List.{List, [], _∷_, _++_, append-assoc}
+use mathlib.Core.List.{List, [], _∷_, _++_, append-nil}
 use Prim.Native.Nat.{ℕ, zero, suc, _+_, _-_, _≤_, _<_}
 use native.Mathlib.Nat.{not-suc-le-zero, le-of-suc-le-suc}
 use native.Mathlib.Omega.{arith}
 use lib.ListN.{length, getD, drop, set, length-append, length-drop, List·getD-append}
-use lib.Seq.{getD-drop, getD-append-add, drop-cons, set-append-seam}
+use lib.Seq.{getD-drop, getD-append-add, append-snoc, sets}
 use Rattle.lists.specs.Lists.{written}
 
 module _ {A : Type 0} where
@@ -33,3 +33,11 @@ module _ {A : Type 0} where
       let e : i ≡ length xs + (i - length xs) = omega arith in
       ap (λ (k : ℕ). getD (written xs lent) k d) e ∙ getD-append-add xs (drop (length xs) lent) (i - length xs) d
       ∙ getD-drop (length xs) lent (i - length xs) d ∙ ap (λ (k : ℕ). getD lent k d) (sym e)
+
+  -- a run of stores behind what is there
+  pub written-run : (t xs lent : List A) → length xs + length t ≤ length lent → sets (written xs lent) (length xs) t ≡ written (xs ++ t) lent
+  written-run [] xs lent h = ap (λ (w : List A). written w lent) (sym (append-nil xs))
+  written-run (v ∷ t) xs lent h =
+      let e : length (xs ++ (v ∷ [])) ≡ suc (length xs) = length-append xs (v ∷ []) ∙ omega arith in
+      ap (λ (l : List A). sets l (suc (length xs)) t) (written-next xs lent v (omega arith)) ∙ ap (λ (k : ℕ). sets (written (xs ++ (v ∷ [])) lent) k t) (sym e)
+      ∙ written-run t (xs ++ (v ∷ [])) lent (omega arith) ∙ ap (λ (w : List A). written w lent) (append-snoc xs v t)

@@ -8,3 +8,6 @@ pub mod Ascending
 pub mod Classes
 pub mod Grown
 pub mod Reordered
+pub mod Trails
+pub mod Sizes
+pub mod Labels

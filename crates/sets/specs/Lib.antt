@@ -2,3 +2,4 @@
 pub mod Closed
 pub mod Parents
 pub mod Listing
+pub mod Threads

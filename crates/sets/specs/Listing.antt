@@ -1,10 +1,12 @@
 -- Listings: the closed sets in a definition that computes, and how a listing stands in lent lists.
+use mathlib.Core.Path.{_≡_}
 use mathlib.Core.Bool.{Bool, _||_}
 use mathlib.Core.List.{List, [], _∷_, map}
 use Prim.Native.Nat.{ℕ, zero, suc, _+_}
 use lib.Dec.{eqb}
 use lib.ListN.{length, getD}
-use Rattle.lists.specs.Lists.{below, keep, any}
+use Rattle.lists.specs.Lists.{below, keep, any, concat, written}
+use Rattle.sets.specs.Parents.{root}
 
 -- A set with all indexes below n that touch a member of it, either way round.
 abbrev pub grow : ℕ → (ℕ → ℕ → Bool) → List ℕ → List ℕ
@@ -37,3 +39,10 @@ classes n f = map (classOf n f) (keep (λ r. eqb (f r) r) (below n))
 abbrev pub endsFrom : ℕ → List (List ℕ) → List ℕ
 endsFrom k [] = []
 endsFrom k (s ∷ ss) = (k + length s) ∷ endsFrom (k + length s) ss
+
+-- What `list` leaves: the sets of equal root strung together, their ends and their count; places past the answers are kept. The parents are flat.
+pub record Listing (n : ℕ) (p m e p′ m′ e′ : List ℕ) (r : ℕ) : Type 0 where
+  pub count : r ≡ length (classes n (root p))
+  pub members : m′ ≡ written (concat (classes n (root p))) m
+  pub ends : e′ ≡ written (endsFrom 0 (classes n (root p))) e
+  pub labels : p′ ≡ written (map (root p) (below n)) p

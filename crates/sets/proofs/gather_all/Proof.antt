@@ -1,0 +1,186 @@
+-- `sets::gather_all` meets its contract: the classes with a root below i are listed, and the thread of the root i is its class.
+use mathlib.Core.Path.{_≡_, refl, sym, ap, ap₂, subst, _∙_}
+use mathlib.Core.Logic.{⊎-elim}
+use mathlib.Core.List.{List, [], _∷_, _++_}
+use Prim.Native.Nat.{ℕ, suc, _+_, _-_, _≤_, _<_, zero-le}
+use native.Mathlib.Nat.{zero-add}
+use native.Mathlib.Numerals.{add-one}
+use native.Mathlib.Omega.{arith}
+use lib.ListN.{length, set, length-set, length-append}
+use lib.Seq.{sets, length-sets}
+use Rattle.lists.specs.Lists.{concat, written}
+use Rattle.lists.proofs.Written.{written-more, written-run}
+use Rattle.sets.specs.Listing.{classOf, classes, endsFrom}
+use Rattle.sets.specs.Threads.{entry, Flat, Threaded, Rising, Trail, Fitting, Appended, Gathered}
+use Rattle.sets.proofs.Sizes.{classesTo, classes-all, classes-none, classes-one, classes-past, classes-count, classes-fit, concat-one, length-ends, ends-one}
+use Rattle.sets.proofs.Trails.{threaded-rises, trail-class}
+use Rattle.sets.proofs.gather_all.Statement.{statement}
+use Rattle.sets.proofs.gather_all.Tie as tie
+
+-- the listing of the classes ss
+record Partial (ss : List (List ℕ)) (m₀ e₀ m e : List ℕ) (at count : ℕ) : Type 0 where
+  place : at ≡ length (concat ss)
+  number : count ≡ length ss
+  members : m ≡ written (concat ss) m₀
+  ends : e ≡ written (endsFrom 0 ss) e₀
+  members-long : length m ≡ length m₀
+  ends-long : length e ≡ length e₀
+
+record Gathering (n : ℕ) (p m₀ e₀ m e : List ℕ) (at count i : ℕ) : Type 0 where
+  up-to : i ≤ n
+  part : Partial (classesTo n (entry p) i) m₀ e₀ m e at count
+
+start : {n : ℕ} {p m e : List ℕ} → Gathering n p m e m e 0 0 0
+start {n} {p} {m} {e} =
+    record {
+      up-to = zero-le;
+      part =
+          subst (λ (ss : List (List ℕ)). Partial ss m e m e 0 0) (sym (classes-none n (entry p)))
+          (record { place = refl; number = refl; members = refl; ends = refl; members-long = refl; ends-long = refl });
+    }
+
+-- one set more
+partial-one : {ss : List (List ℕ)} {m₀ e₀ m e m′ : List ℕ} {at count end : ℕ} (s : List ℕ) → Partial ss m₀ e₀ m e at count → Appended m at s m′ end
+    → length (concat ss) + length s ≤ length m₀ → length ss < length e₀ → Partial (ss ++ (s ∷ [])) m₀ e₀ m′ (set e count end) end (count + 1)
+partial-one {ss} {m₀} {e₀} {m} {e} {m′} {at} {count} {end} s P A room more =
+    let len : length (concat (ss ++ (s ∷ []))) ≡ length (concat ss) + length s = ap length (concat-one ss s) ∙ length-append (concat ss) s in
+    let past : end ≡ length (concat ss) + length s = A .end ∙ ap (λ (k : ℕ). k + length s) (P .place) in
+    record {
+      place = past ∙ sym len;
+      number = ap (λ (k : ℕ). k + 1) (P .number) ∙ sym (length-append ss (s ∷ []));
+      members =
+          A .content ∙ ap₂ (λ (l : List ℕ) (k : ℕ). sets l k s) (P .members) (P .place) ∙ written-run s (concat ss) m₀ room
+          ∙ ap (λ (w : List ℕ). written w m₀) (sym (concat-one ss s));
+      ends =
+          written-more (endsFrom 0 ss) e₀ end (P .ends) (length-ends 0 ss ∙ sym (P .number)) (rw (P .number) more)
+          (ends-one 0 ss s ∙ ap (λ (k : ℕ). endsFrom 0 ss ++ (k ∷ [])) (zero-add (length (concat ss) + length s) ∙ sym past));
+      members-long = ap length (A .content) ∙ length-sets m at s ∙ P .members-long;
+      ends-long = length-set e count end ∙ P .ends-long;
+    }
+
+module _ {n : ℕ} {p next m₀ e₀ m e : List ℕ} {at count i : ℕ} (F : Flat n p) (T : Threaded n p next) (rm : n ≤ length m₀) (re : n ≤ length e₀)
+    (G : Gathering n p m₀ e₀ m e at count i) (l : i < n) where
+  fit : entry p i ≡ i → at + length (classOf n (entry p) i) ≤ n
+  fit h = rw (G .part .place) (classes-fit n (entry p) (F .fixed) i h)
+
+  fitting : entry p i ≡ i → Fitting next i m at
+  fitting h =
+      record {
+        met = classOf n (entry p) i;
+        trail = trail-class F T i l h;
+        fits = omega (arith, fit h, G .part .members-long);
+      }
+
+  counted : count ≤ i
+  counted = rw (G .part .number) (classes-count n (entry p) i)
+
+  turn : {m′ : List ℕ} {end : ℕ} → entry p i ≡ i → ((t : List ℕ) → Trail next i t → Appended m at t m′ end)
+      → Gathering n p m₀ e₀ m′ (set e count end) end (count + 1) (i + 1)
+  turn {m′} {end} h A =
+      record {
+        up-to = omega arith;
+        part =
+            subst (λ (ss : List (List ℕ)). Partial ss m₀ e₀ m′ (set e count end) end (count + 1))
+            (sym (ap (classesTo n (entry p)) (add-one i) ∙ classes-one n (entry p) i h))
+            (partial-one (classOf n (entry p) i) (G .part) (A (classOf n (entry p) i) (trail-class F T i l h))
+            (omega (arith, classes-fit n (entry p) (F .fixed) i h)) (omega (arith, classes-count n (entry p) i)));
+      }
+
+  -- the end of the set is at most n
+  end-low : {m′ : List ℕ} {end : ℕ} → entry p i ≡ i → ((t : List ℕ) → Trail next i t → Appended m at t m′ end) → end ≤ n
+  end-low h A = rw (A (classOf n (entry p) i) (trail-class F T i l h) .end) (fit h)
+
+  pass : (entry p i ≡ i → ⊥) → Gathering n p m₀ e₀ m e at count (i + 1)
+  pass h =
+      record {
+        up-to = omega arith;
+        part =
+            subst (λ (ss : List (List ℕ)). Partial ss m₀ e₀ m e at count) (sym (ap (classesTo n (entry p)) (add-one i) ∙ classes-past n (entry p) i h))
+            (G .part);
+      }
+
+done : {n : ℕ} {p m₀ e₀ m e : List ℕ} {at count i : ℕ} → Gathering n p m₀ e₀ m e at count i → n ≤ i → Gathered n p m₀ e₀ m e count
+done {n} {p} {m₀} {e₀} {m} {e} {at} {count} {i} G h =
+    let end : i ≡ n = omega (arith, G .up-to) in
+    let P = subst (λ (ss : List (List ℕ)). Partial ss m₀ e₀ m e at count) (ap (classesTo n (entry p)) end ∙ classes-all n (entry p)) (G .part) in
+    record { count = P .number; members = P .members; ends = P .ends }
+
+-- where the two ways meet, each list and number is what its way left
+moved : {n : ℕ} {p m₀ e₀ m e m′ e′ : List ℕ} {at count at′ count′ i : ℕ} → Gathering n p m₀ e₀ m e at count i → m′ ≡ m → e′ ≡ e → at′ ≡ at → count′ ≡ count
+    → Gathering n p m₀ e₀ m′ e′ at′ count′ i
+moved G a b c d = rw (a, b, c, d) G
+
+abbrev Inv-loop : tie.InvT-loop
+Inv-loop parents n next members₀ ends₀ at₀ count₀ i₀ members ends at count i = Gathering n parents members₀ ends₀ members ends at count i
+
+abbrev μ-loop : tie.MeasureT-loop
+μ-loop parents n next members₀ ends₀ at₀ count₀ i₀ members ends at count i = n - i
+
+loop-holds : tie.Need-loop-holds Inv-loop μ-loop
+loop-holds c = start
+
+mul-if1 : tie.Need-mul-if1 Inv-loop μ-loop
+mul-if1 c = omega arith
+
+shared-slice-read-if1 : tie.Need-shared-slice-read-if1 Inv-loop μ-loop
+shared-slice-read-if1 c = omega arith
+
+cast-if1 : tie.Need-cast-if1 Inv-loop μ-loop
+cast-if1 c = omega (arith, c .shared-slice-known3 .given (c .before .before .loop .i))
+
+gather-requires : tie.Need-gather-requires Inv-loop μ-loop
+gather-requires c κs = (threaded-rises (c .before .before .before .before .before .before .before .before .before .pre .0) (c .before .before .before .before .before .before .before .before .before .pre .1), c .before .before .before .loop-test .taken, fitting (c .before .before .before .before .before .before .before .before .before .pre .0) (c .before .before .before .before .before .before .before .before .before .pre .1) (c .before .before .before .before .before .before .before .before .before .pre .2) (c .before .before .before .before .before .before .before .before .before .pre .3) (c .before .before .before .before .loop .inv) (c .before .before .before .loop-test .taken) (c .before .if1 .taken))
+
+cast-ends : tie.Need-cast-ends Inv-loop μ-loop
+cast-ends c = omega (arith, end-low (c .before .before .before .before .before .before .before .before .before .before .before .before .pre .0) (c .before .before .before .before .before .before .before .before .before .before .before .before .pre .1) (c .before .before .before .before .before .before .before .before .before .before .before .before .pre .2) (c .before .before .before .before .before .before .before .before .before .before .before .before .pre .3) (c .before .before .before .before .before .before .before .loop .inv) (c .before .before .before .before .before .before .loop-test .taken) (c .before .before .before .before .if1 .taken) (c .before .before .gather .ensures))
+
+mul-ends : tie.Need-mul-ends Inv-loop μ-loop
+mul-ends c = omega (arith, counted (c .before .before .before .before .before .before .before .before .before .before .before .before .pre .0) (c .before .before .before .before .before .before .before .before .before .before .before .before .pre .1) (c .before .before .before .before .before .before .before .before .before .before .before .before .pre .2) (c .before .before .before .before .before .before .before .before .before .before .before .before .pre .3) (c .before .before .before .before .before .before .before .loop .inv) (c .before .before .before .before .before .before .loop-test .taken))
+
+slice-write-ends : tie.Need-slice-write-ends Inv-loop μ-loop
+slice-write-ends c = omega (arith, counted (c .before .before .before .before .before .before .before .before .before .before .before .before .pre .0) (c .before .before .before .before .before .before .before .before .before .before .before .before .pre .1) (c .before .before .before .before .before .before .before .before .before .before .before .before .pre .2) (c .before .before .before .before .before .before .before .before .before .before .before .before .pre .3) (c .before .before .before .before .before .before .before .loop .inv) (c .before .before .before .before .before .before .loop-test .taken))
+
+add-count : tie.Need-add-count Inv-loop μ-loop
+add-count c = omega (arith, counted (c .before .before .before .before .before .before .before .before .before .before .before .before .pre .0) (c .before .before .before .before .before .before .before .before .before .before .before .before .pre .1) (c .before .before .before .before .before .before .before .before .before .before .before .before .pre .2) (c .before .before .before .before .before .before .before .before .before .before .before .before .pre .3) (c .before .before .before .before .before .before .before .loop .inv) (c .before .before .before .before .before .before .loop-test .taken))
+
+add-i : tie.Need-add-i Inv-loop μ-loop
+add-i c = omega arith
+
+loop-less : tie.Need-loop-less Inv-loop μ-loop
+loop-less c = omega arith
+
+loop-again : tie.Need-loop-again Inv-loop μ-loop
+loop-again c =
+    ⊎-elim (λ w. moved (turn (c .before .before .before .before .before .before .before .before .pre .0) (c .before .before .before .before .before .before .before .before .pre .1) (c .before .before .before .before .before .before .before .before .pre .2) (c .before .before .before .before .before .before .before .before .pre .3) (c .before .before .before .loop .inv) (c .before .before .loop-test .taken) (w .0 .taken) (w .2 .ensures)) (w .5) (w .6) (w .7) (w .8))
+    (λ w. moved (pass (c .before .before .before .before .before .before .before .before .pre .0) (c .before .before .before .before .before .before .before .before .pre .1) (c .before .before .before .before .before .before .before .before .pre .2) (c .before .before .before .before .before .before .before .before .pre .3) (c .before .before .before .loop .inv) (c .before .before .loop-test .taken) (w .0 .left)) (w .1) (w .2) (w .3) (w .4)) (c .if1 .came)
+
+same-length : tie.Need-same-length Inv-loop μ-loop
+same-length c = c .before .loop .inv .part .members-long
+
+same-length-2 : tie.Need-same-length-2 Inv-loop μ-loop
+same-length-2 c = c .before .loop .inv .part .ends-long
+
+returns : tie.Need-returns Inv-loop μ-loop
+returns c = done (c .before .loop .inv) (c .loop-test .left)
+
+pub gather-all-spec : {M : Type 1} → statement M
+gather-all-spec =
+    tie.close
+    (tie.spec
+    Inv-loop
+    μ-loop
+    loop-holds
+    mul-if1
+    shared-slice-read-if1
+    cast-if1
+    gather-requires
+    cast-ends
+    mul-ends
+    slice-write-ends
+    add-count
+    add-i
+    loop-less
+    loop-again
+    same-length
+    same-length-2
+    returns)
