@@ -11,3 +11,4 @@ pub mod Reordered
 pub mod Trails
 pub mod Sizes
 pub mod Labels
+pub mod Listings

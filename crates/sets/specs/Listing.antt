@@ -1,10 +1,10 @@
 -- Listings: the closed sets in a definition that computes, and how a listing stands in lent lists.
 use mathlib.Core.Path.{_≡_}
-use mathlib.Core.Bool.{Bool, _||_}
+use mathlib.Core.Bool.{Bool, cond, _&&_, _||_}
 use mathlib.Core.List.{List, [], _∷_, map}
-use Prim.Native.Nat.{ℕ, zero, suc, _+_}
-use lib.Dec.{eqb}
-use lib.ListN.{length, getD}
+use Prim.Native.Nat.{ℕ, zero, suc, _+_, _-_}
+use lib.Dec.{eqb, leb, ltb}
+use lib.ListN.{length, getD, take, drop}
 use Rattle.lists.specs.Lists.{below, keep, any, concat, written}
 use Rattle.sets.specs.Parents.{root}
 
@@ -46,3 +46,14 @@ pub record Listing (n : ℕ) (p m e p′ m′ e′ : List ℕ) (r : ℕ) : Type 
   pub members : m′ ≡ written (concat (classes n (root p))) m
   pub ends : e′ ≡ written (endsFrom 0 (classes n (root p))) e
   pub labels : p′ ≡ written (map (root p) (below n)) p
+
+-- Set k begins where the one before it ends.
+abbrev pub startOf : List ℕ → ℕ → ℕ
+startOf ends zero = 0
+startOf ends (suc k) = getD ends k 0
+
+-- The members of set k of a listing, as a part of its member list; the empty part for a number at or past the count, and for bad bounds.
+abbrev pub membersOf : List ℕ → List ℕ → ℕ → ℕ → List ℕ
+membersOf members ends count k =
+    cond (ltb k count && ltb k (length ends) && leb (startOf ends k) (getD ends k 0) && leb (getD ends k 0) (length members))
+    (take (getD ends k 0 - startOf ends k) (drop (startOf ends k) members)) []

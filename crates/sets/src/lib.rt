@@ -6,7 +6,7 @@ ghost use mathlib.Core.List.{List, map};
 ghost use Prim.Native.Nat.{ℕ, _≤_, _<_};
 ghost use lib.ListN.{length};
 ghost use Rattle.lists.specs.Lists.{below, written};
-ghost use Rattle.sets.specs.Listing.{Listing};
+ghost use Rattle.sets.specs.Listing.{Listing, startOf, membersOf};
 ghost use Rattle.sets.specs.Threads.{Flat, Unthreaded, Threaded, Rising, Trail, Fitting, Appended, Gathered};
 ghost use Rattle.sets.specs.Parents.{Room, Parents, root, Found, Joined};
 
@@ -151,4 +151,36 @@ fn gather_all(
         i += 1;
     }
     count
+}
+
+// The members of one set of a listing, as a part of the member list; empty for a number at or past the count and for bad bounds.
+pub fn members_of<'a>(members: &'a [u32], ends: &[u32], count: usize, set: usize) -> &'a [u32]
+    ensures { λ r. ⌜ now r ≡ membersOf (now (members .entry)) (now (ends .entry)) count set ⌝ }
+{
+    if count <= set {
+        return &members[0..0];
+    }
+    if ends.len() <= set {
+        return &members[0..0];
+    }
+    let start = start_of(ends, set);
+    let end = ends[set] as usize;
+    if end < start {
+        return &members[0..0];
+    }
+    if members.len() < end {
+        return &members[0..0];
+    }
+    &members[start..end]
+}
+
+// Where a set begins.
+fn start_of(ends: &[u32], set: usize) -> usize
+    requires { ⌜ set < length (now ends) ⌝ }
+    ensures { λ r. ⌜ r ≡ startOf (now (ends .entry)) set ⌝ }
+{
+    if set == 0 {
+        return 0;
+    }
+    ends[set - 1] as usize
 }
