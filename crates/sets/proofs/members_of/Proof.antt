@@ -1,5 +1,5 @@
 -- `sets::members_of` meets its contract: each test that fails gives the empty part, as in the definition.
-use mathlib.Core.Path.{_≡_, refl}
+use mathlib.Core.Path.{_≡_, refl, sym}
 use mathlib.Core.List.{List, []}
 use Prim.Native.Nat.{ℕ, _-_, _≤_, _<_}
 use native.Mathlib.Omega.{arith}
@@ -7,6 +7,7 @@ use lib.ListN.{length, getD, take, drop}
 use borrow.Author.Tests.{lt-ltb, le-ltb, le-leb, lt-leb}
 use Rattle.sets.specs.Listing.{startOf, membersOf}
 use borrow.Author.Needs.{needs}
+use Rattle.sets.proofs.Listings.{members-inside}
 use Rattle.sets.proofs.members_of.Statement.{statement}
 use Rattle.sets.proofs.members_of.Tie as tie
 
@@ -26,9 +27,7 @@ module _ (members ends : List ℕ) (count k : ℕ) where
         simp (lt-ltb k count a, lt-ltb k (length ends) b, le-leb (startOf ends k) (getD ends k 0) (rw s at g), lt-leb (getD ends k 0) (length members) h)
 
     part : start ≤ getD ends k 0 → getD ends k 0 ≤ length members → take (getD ends k 0 - start) (drop start members) ≡ membersOf members ends count k
-    part g h =
-        simp
-        (lt-ltb k count a, lt-ltb k (length ends) b, le-leb (startOf ends k) (getD ends k 0) (rw s at g), le-leb (getD ends k 0) (length members) h, s)
+    part g h = rw s (sym (members-inside members ends count k a b (rw s at g) h))
 
 sub-result : tie.Need-sub-result
 sub-result c = search needs
