@@ -12,9 +12,10 @@ use borrow.Author.Tests.{eqb-true, eq-eqb}
 use Rattle.lists.specs.Lists.{below, keep, In}
 use Rattle.lists.proofs.Keep.{in-below, below-in, kept-in, in-kept, in-at, at-in, getD-map, keep-below-same, map-same}
 use Rattle.sets.specs.Closed.{Below, Touching, Chain, here, next, Ascending, Closed, Once, Listed}
+use Rattle.sets.specs.Joins.{Represents}
 use Rattle.sets.specs.Listing.{classOf, classes}
 use Rattle.sets.proofs.Chains.{chain-step, chain-map, chain-carry, chain-inside}
-use Rattle.sets.proofs.Represents.{Represents, along}
+use Rattle.sets.proofs.Represents.{along}
 use Rattle.sets.proofs.Ascending.{ascending-below, ascending-keep, ascending-same, one-place}
 
 pub in-class : (n : ℕ) (f : ℕ → ℕ) (r i : ℕ) → i < n → f i ≡ r → In (classOf n f r) i

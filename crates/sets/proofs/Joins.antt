@@ -13,20 +13,11 @@ use Rattle.lists.specs.Lists.{below, written}
 use Rattle.lists.proofs.Keep.{length-below, getD-below}
 use Rattle.lists.proofs.Written.{written-length, written-at}
 use Rattle.sets.specs.Closed.{Touching, Chain, here, next, Smallest}
+use Rattle.sets.specs.Joins.{Joins}
 use Rattle.sets.specs.Parents.{Room, Parents, root, merged, Joined}
 use Rattle.sets.proofs.Chains.{chain-append, chain-back, chain-step, chain-map}
-use Rattle.sets.proofs.Represents.{Represents, along, represents-smallest, represents-exchange}
+use Rattle.sets.proofs.Represents.{represents-exchange}
 use Rattle.sets.proofs.Roots.{root-stays, root-le, root-root}
-
--- The roots of p are the closed sets of R over the domain D, of indexes below n.
-pub record Joins (n : ℕ) (D : ℕ → Type 0) (R : ℕ → ℕ → Type 0) (p : List ℕ) : Type 0 where
-  pub parents : Parents n p
-  pub inside : (i : ℕ) → D i → i < n
-  pub roots : Represents D R (root p)
-
--- each index alone: the empty rule
-Never : ℕ → ℕ → Type 0
-Never i j = ⊥
 
 module _ {n : ℕ} {p : List ℕ} (R : Room n p) where
   alone-at : (i : ℕ) → i < n → getD (written (below n) p) i 0 ≡ i

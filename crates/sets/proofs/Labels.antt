@@ -9,9 +9,9 @@ use Rattle.lists.specs.Lists.{below, written}
 use Rattle.lists.proofs.Keep.{length-values, getD-values}
 use Rattle.lists.proofs.Written.{written-length, written-at}
 use Rattle.sets.specs.Closed.{Smallest}
+use Rattle.sets.specs.Joins.{Joins}
 use Rattle.sets.specs.Parents.{Parents, root}
 use Rattle.sets.specs.Threads.{entry, Flat}
-use Rattle.sets.proofs.Joins.{Joins}
 use Rattle.sets.proofs.Represents.{represents-smallest}
 use Rattle.sets.proofs.Roots.{root-le, root-root}
 

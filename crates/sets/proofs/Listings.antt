@@ -13,10 +13,10 @@ use Rattle.lists.specs.Lists.{concat, written}
 use Rattle.lists.proofs.Written.{written-length, written-at}
 use Rattle.sets.specs.Closed.{Below, Listed}
 use Rattle.sets.specs.Listing.{closedSets, classes, endsFrom, startOf, membersOf}
+use Rattle.sets.specs.Joins.{Joins}
 use Rattle.sets.specs.Parents.{root}
 use Rattle.sets.proofs.Classes.{classes-listed}
 use Rattle.sets.proofs.Grown.{Holds, classes-closedSets}
-use Rattle.sets.proofs.Joins.{Joins}
 use Rattle.sets.proofs.Sizes.{length-ends}
 
 -- where every test passes, the part stands between the bounds

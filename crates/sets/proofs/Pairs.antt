@@ -9,15 +9,10 @@ use native.Mathlib.Decide.{decLt, ℕ-discrete}
 use native.Mathlib.Omega.{arith}
 use Rattle.lists.specs.Lists.{below, written}
 use Rattle.sets.specs.Closed.{Touching, Chain, here}
+use Rattle.sets.specs.Joins.{Joins, Seen}
 use Rattle.sets.specs.Parents.{Room, Joined}
 use Rattle.sets.proofs.Chains.{chain-step, chain-back}
-use Rattle.sets.proofs.Joins.{Joins, joins-none, joins-more, joins-same, joins-exchange}
-
--- The pairs a < b that touch and stand before the pair i, j.
-pub record Seen (R : ℕ → ℕ → Type 0) (i j a b : ℕ) : Type 0 where
-  pub touch : Touching R a b
-  pub order : a < b
-  pub before : (a < i) ⊎ ((a ≡ i) × (b < j))
+use Rattle.sets.proofs.Joins.{joins-none, joins-more, joins-same, joins-exchange}
 
 -- no pair stands before the first of row 0
 pub pairs-begin : {n : ℕ} {p : List ℕ} (D : ℕ → Type 0) (R : ℕ → ℕ → Type 0) → Room n p → ((i : ℕ) → D i → i < n)

@@ -4,15 +4,8 @@ use Prim.Native.Nat.{ℕ, _≤_, _<_}
 use native.Mathlib.Nat.{le-antisymm}
 use native.Mathlib.Omega.{arith}
 use Rattle.sets.specs.Closed.{Touching, Chain, here, next, Smallest}
+use Rattle.sets.specs.Joins.{Represents}
 use Rattle.sets.proofs.Chains.{chain-first, chain-last, chain-agree, chain-map}
-
-pub record Represents (D : ℕ → Type 0) (R : ℕ → ℕ → Type 0) (f : ℕ → ℕ) : Type 0 where
-  pub stays : (i : ℕ) → D i → D (f i)
-  pub low : (i : ℕ) → D i → f i ≤ i
-  pub fixed : (i : ℕ) → D i → f (f i) ≡ f i
-  -- indexes with the same representative are joined by a chain, and touching ones have the same
-  pub sound : (i j : ℕ) → D i → D j → f i ≡ f j → Chain D R i j
-  pub complete : (i j : ℕ) → D i → D j → R i j → f i ≡ f j
 
 module _ {D : ℕ → Type 0} {R : ℕ → ℕ → Type 0} {f : ℕ → ℕ} (F : Represents D R f) where
   pub along : {i j : ℕ} → Chain D R i j → f i ≡ f j
