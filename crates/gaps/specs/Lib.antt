@@ -1,0 +1,2 @@
+-- Numbers within a gap of each other, in closed sets.
+pub mod Gaps
