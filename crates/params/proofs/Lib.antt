@@ -1,0 +1,2 @@
+-- The laws of the settings that `params` and the crates above it cite.
+pub mod Every

@@ -1,0 +1,18 @@
+-- The limits of the questions that `math` has no name for, each the number that it is written as, rounded to binary64.
+use mathlib.Core.Path.{_≡_, refl}
+use lib.Ieee.{Float, binary64, ofBits, round}
+use Rattle.math.specs.Constants.{fraction}
+
+abbrev pub one : Float
+one = ofBits binary64 0x3ff0_0000_0000_0000
+
+abbrev pub largestXheight : Float
+largestXheight = ofBits binary64 0x40b0_0000_0000_0000
+
+pub one-is : one ≡ fraction 1 1
+unfolding ofBits round
+one-is = refl
+
+pub largest-xheight-is : largestXheight ≡ fraction 4096 1
+unfolding ofBits round
+largest-xheight-is = refl

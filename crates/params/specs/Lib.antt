@@ -1,0 +1,4 @@
+-- What a reader must believe of `params`: questions 2 and 7 to 13 of document 01, each a test that computes, decided by IEEE comparison.
+pub mod Constants
+pub mod Scan
+pub mod Settings

@@ -1,0 +1,28 @@
+-- Question 2 of document 01, about the resolution and the x-height of a scan. A call that is given only one of the two asks only about that one.
+use Prim.Native.Nat.{ℕ}
+use mathlib.Core.Bool.{Bool, not, _&&_}
+use mathlib.Core.List.{List, [], _∷_}
+use lib.Dec.{eqb}
+use lib.Ieee.{Float, lt, le}
+use lib.Ieee.Scale.{finite}
+use Rattle.math.specs.Constants.{zero}
+use Rattle.questions.specs.Questions.{Question}
+use Rattle.params.specs.Constants.{largestXheight}
+
+-- dpi not 0.
+abbrev pub dpiGiven : ℕ → Bool
+dpiGiven dpi = not (eqb dpi 0)
+
+-- x-height finite, above 0, at most 4,096.
+abbrev pub xheightInRange : Float → Bool
+xheightInRange x = finite x && lt zero x && le x largestXheight
+
+-- Question 2 of a call that is given both, only the dpi, or only the x-height.
+abbrev pub scanQuestions : ℕ → Float → List Question
+scanQuestions dpi xheight = (2, dpiGiven dpi && xheightInRange xheight) ∷ []
+
+abbrev pub dpiQuestions : ℕ → List Question
+dpiQuestions dpi = (2, dpiGiven dpi) ∷ []
+
+abbrev pub xheightQuestions : Float → List Question
+xheightQuestions xheight = (2, xheightInRange xheight) ∷ []
