@@ -9,3 +9,4 @@ pub mod Rounded
 pub mod Order
 pub mod Tests
 pub mod Cast
+pub mod Limit
