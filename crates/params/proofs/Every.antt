@@ -2,8 +2,8 @@
 use mathlib.Core.Path.{_≡_, refl, sym, ap, _∙_}
 use Prim.Native.Nat.{ℕ, _+_, _≤_, _<_}
 use native.Mathlib.Numerals.{add-one}
-use mathlib.Core.Bool.{Bool, _&&_, and-assoc, and-true}
-use mathlib.Core.List.{List}
+use mathlib.Core.Bool.{Bool, true, false, _&&_, and-assoc, and-true, true≢false}
+use mathlib.Core.List.{List, [], _∷_}
 use lib.ListN.{length, getD, drop, drop-of-length-le}
 use lib.Seq.{drop-cons}
 use lib.Ieee.{Float, nan}
@@ -17,3 +17,16 @@ every-step test so xs i h =
 
 pub every-done : (test : Float → Bool) (so : Bool) (xs : List Float) (i : ℕ) → length xs ≤ i → so && every test (drop i xs) ≡ so
 every-done test so xs i h = ap (λ (ys : List Float). so && every test ys) (drop-of-length-le xs h) ∙ and-true so
+
+pub both-true : (a b : Bool) → a && b ≡ true → (a ≡ true) × (b ≡ true)
+both-true true b h = (refl, h)
+both-true false b h = absurd (true≢false (sym h))
+
+-- what every float of a list has, read off by place
+abbrev pub Each : (Float → Type 0) → List Float → Type 0
+Each Has [] = Unit
+Each Has (x ∷ xs) = Has x × Each Has xs
+
+pub each : {test : Float → Bool} {Has : Float → Type 0} → ((x : Float) → test x ≡ true → Has x) → (xs : List Float) → every test xs ≡ true → Each Has xs
+each give [] h = tt
+each {test} give (x ∷ xs) h = (give x (both-true (test x) (every test xs) h .0), each give xs (both-true (test x) (every test xs) h .1))

@@ -1,5 +1,4 @@
 -- Questions 7 to 13 of document 01, about the settings.
-use Prim.Native.Nat.{ℕ}
 use mathlib.Core.Bool.{Bool, true, not, _&&_}
 use mathlib.Core.List.{List, [], _∷_, _++_}
 use lib.Dec.{leb}

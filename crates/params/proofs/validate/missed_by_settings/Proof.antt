@@ -1,5 +1,5 @@
 -- `params::validate::missed_by_settings` meets its contract: 13 is asked where none of 7 to 11 is missed. Assumes nothing.
-use mathlib.Core.Path.{sym, _∙_}
+use mathlib.Core.Path.{sym}
 use borrow.Author.Needs.{needs}
 use borrow.Author.Tests.{eq-eqb, ne-eqb}
 use Rattle.questions.proofs.FirstMissed.{in-two-parts}

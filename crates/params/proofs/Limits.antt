@@ -1,0 +1,99 @@
+-- What question 2 says of a scan, and with questions 7 and 8 of each rounded limit: a whole number that is small enough for 64 bits with room to spare.
+-- Assumes nothing.
+use mathlib.Core.Path.{_≡_, refl, sym, _∙_}
+use Prim.Native.Nat.{ℕ, _*_, _≤_}
+use native.Mathlib.Nat.{le-trans, le-of-eq, mul-one, one-mul, mul-le-mul-right}
+use native.Mathlib.Omega.{arith}
+use mathlib.Core.Bool.{true, false}
+use lib.Dec.{eqb, lit<, lit≤}
+use lib.Ieee.{Float, binary64, mul, lt, ofBits}
+use lib.Ieee.Positive.{num, den, value→cross}
+use lib.Ieee.Scale.{finite}
+use borrow.Author.Tests.{not-true, eqb-false}
+use Rattle.math.specs.Constants.{zero, two}
+use Rattle.math.specs.Rounding.{roundedProduct}
+use Rattle.math.proofs.Bound.{AtMost, AtLeast, value-at-most, mul-at-most}
+use Rattle.math.proofs.Limit.{UpTo, rounded-product-up-to, mul-not-below}
+use Rattle.math.proofs.Sums.{whole, whole-value}
+use Rattle.questions.specs.Questions.{firstMissed}
+use Rattle.questions.proofs.FirstMissed.{all-yes}
+use Rattle.params.specs.declared.settings.RulingsParams.{RulingsParams}
+use Rattle.params.specs.Scan.{dpiGiven, xheightInRange, scanQuestions, dpiQuestions, xheightQuestions}
+use Rattle.params.proofs.Every.{both-true}
+use Rattle.params.proofs.Bounds.{XHeight, xheight-says}
+use Rattle.params.proofs.Passed.{Settings}
+
+-- ---- the scan
+
+pub dpi-says : (dpi : ℕ) → dpiGiven dpi ≡ true → 1 ≤ dpi
+dpi-says dpi h = positive (eqb-false dpi 0 (not-true (eqb dpi 0) h))
+  where
+    positive : (dpi ≡ 0 → ⊥) → 1 ≤ dpi
+    positive n = omega arith
+
+pub dpi-passed : (dpi : ℕ) → firstMissed (dpiQuestions dpi) ≡ 0 → 1 ≤ dpi
+dpi-passed dpi h = dpi-says dpi (all-yes (dpiQuestions dpi) tt h .0)
+
+pub xheight-passed : (x : Float) → firstMissed (xheightQuestions x) ≡ 0 → XHeight x
+xheight-passed x h = xheight-says x (all-yes (xheightQuestions x) tt h .0)
+
+pub scan-passed : (dpi : ℕ) (x : Float) → firstMissed (scanQuestions dpi x) ≡ 0 → (1 ≤ dpi) × XHeight x
+scan-passed dpi x h =
+    let b = both-true (dpiGiven dpi) (xheightInRange x) (all-yes (scanQuestions dpi x) tt h .0) in
+    (dpi-says dpi (b .0), xheight-says x (b .1))
+
+-- the dpi, 16 bits wide, as a float
+pub record Dpi (dpi : ℕ) : Type 0 where
+  pub at-least : AtLeast 1 (whole dpi)
+  pub at-most : AtMost 65_535 (whole dpi)
+
+pub dpi-as-float : (dpi : ℕ) → 1 ≤ dpi → dpi ≤ 65_535 → Dpi dpi
+dpi-as-float dpi h k =
+    let v = whole-value dpi (le-trans k (lit≤ tt)) in
+    let most = value-at-most 65_535 (whole dpi) false dpi 1 (lit< tt) (le-trans k (le-of-eq (sym (mul-one 65_535)))) v in
+    record {
+      at-least = record {
+        finite = most .finite;
+        size = size-of (whole dpi) (value→cross (whole dpi) dpi 1 v);
+      };
+      at-most = most;
+    }
+  where
+    size-of : (x : Float) → num x * 1 ≡ dpi * den x → den x ≤ 1 * num x
+    size-of x e = le-trans (le-of-eq (sym (one-mul (den x)))) (le-trans (mul-le-mul-right (den x) h) (le-of-eq (sym e ∙ mul-one (num x) ∙ sym (one-mul (num x)))))
+
+-- ---- the rounded limits
+
+pub limit-up-to : (x y : Float) → AtMost 1_000_000 x → lt x zero ≡ false → XHeight y → UpTo (1_000_000 * 4096) (roundedProduct x y)
+limit-up-to x y h p k = rounded-product-up-to 1_000_000 4096 x y h (k .at-most) (lit< tt) p (k .not-below)
+
+two-at-most : AtMost 2 two
+unfolding ofBits
+two-at-most = record { finite = tt; size = lit≤ tt }
+
+two-not-below : lt two zero ≡ false
+unfolding lt ofBits
+two-not-below = refl
+
+pub doubled-limit-up-to : (x y : Float) → AtMost 1_000_000 x → lt x zero ≡ false → XHeight y → UpTo (2 * 1_000_000 * 4096) (roundedProduct (mul binary64 two x) y)
+doubled-limit-up-to x y h p k =
+    rounded-product-up-to (2 * 1_000_000) 4096 (mul binary64 two x) y (mul-at-most binary64 2 1_000_000 two x two-at-most h (lit< tt)) (k .at-most) (lit< tt)
+    (mul-not-below binary64 2 1_000_000 two x two-at-most h (lit< tt) two-not-below p) (k .not-below)
+
+-- the limits of pieces, of rulings, of lines and of boxes
+pub record Limits (p : RulingsParams) (xheight : Float) : Type 0 where
+  pub «merge_across» : UpTo (1_000_000 * 4096) (roundedProduct (p .«merge_across_xh») xheight)
+  pub «merge_gap» : UpTo (1_000_000 * 4096) (roundedProduct (p .«merge_gap_xh») xheight)
+  pub «join_tol» : UpTo (1_000_000 * 4096) (roundedProduct (p .«join_tol_xh») xheight)
+  pub «line_cluster» : UpTo (1_000_000 * 4096) (roundedProduct (p .«line_cluster_xh») xheight)
+  pub «grid_align» : UpTo (2 * 1_000_000 * 4096) (roundedProduct (mul binary64 two (p .«grid_align_xh»)) xheight)
+
+pub limits : (p : RulingsParams) (xheight : Float) → Settings p → XHeight xheight → Limits p xheight
+limits p xheight s x =
+    record {
+      «merge_across» = limit-up-to (p .«merge_across_xh») xheight (s .floats .«merge_across_xh») (s .lengths .«merge_across_xh») x;
+      «merge_gap» = limit-up-to (p .«merge_gap_xh») xheight (s .floats .«merge_gap_xh») (s .lengths .«merge_gap_xh») x;
+      «join_tol» = limit-up-to (p .«join_tol_xh») xheight (s .floats .«join_tol_xh») (s .lengths .«join_tol_xh») x;
+      «line_cluster» = limit-up-to (p .«line_cluster_xh») xheight (s .floats .«line_cluster_xh») (s .lengths .«line_cluster_xh») x;
+      «grid_align» = doubled-limit-up-to (p .«grid_align_xh») xheight (s .floats .«grid_align_xh») (s .lengths .«grid_align_xh») x;
+    }
