@@ -1,4 +1,5 @@
 -- Laws of lists that several crates use.
 pub mod Written
 pub mod Keep
+pub mod Every
 pub mod Sizes

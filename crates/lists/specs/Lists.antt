@@ -1,5 +1,5 @@
 -- Lists of indexes, and lent lists that are written from the front.
-use mathlib.Core.Bool.{Bool, false, cond, _||_}
+use mathlib.Core.Bool.{Bool, true, false, cond, _&&_, _||_}
 use mathlib.Core.List.{List, [], _∷_, _++_, List·Memᴰ}
 use Prim.Native.Nat.{ℕ, zero, suc}
 use lib.ListN.{length, drop}
@@ -12,6 +12,11 @@ below (suc n) = below n ++ (n ∷ [])
 -- A number is an entry of a list.
 abbrev pub In : List ℕ → ℕ → Type 0
 In s i = List·Memᴰ i s
+
+-- Every number below n passes a test.
+unfoldable pub everyBelow : ℕ → (ℕ → Bool) → Bool
+everyBelow zero q = true
+everyBelow (suc n) q = everyBelow n q && q n
 
 module _ {A : Type 0} where
   -- The entries of a list that pass a test, in their order.

@@ -1,0 +1,3 @@
+-- The laws of rectangles that the crates above cite.
+pub mod Around
+pub mod Questions
