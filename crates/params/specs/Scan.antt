@@ -17,12 +17,14 @@ dpiGiven dpi = not (eqb dpi 0)
 abbrev pub xheightInRange : Float → Bool
 xheightInRange x = finite x && lt zero x && le x largestXheight
 
--- Question 2 of a call that is given both, only the dpi, or only the x-height.
+-- Question 2, where both are given.
 abbrev pub scanQuestions : ℕ → Float → List Question
 scanQuestions dpi xheight = (2, dpiGiven dpi && xheightInRange xheight) ∷ []
 
+-- Question 2, where only the dpi is given.
 abbrev pub dpiQuestions : ℕ → List Question
 dpiQuestions dpi = (2, dpiGiven dpi) ∷ []
 
+-- Question 2, where only the x-height is given.
 abbrev pub xheightQuestions : Float → List Question
 xheightQuestions xheight = (2, xheightInRange xheight) ∷ []

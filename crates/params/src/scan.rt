@@ -1,4 +1,5 @@
-// Question 2: the resolution and the x-height of a scan.
+// Question 2: the resolution and the x-height of a scan. A smaller call asks only about what it is
+// given, so each half has a guard of its own.
 ghost use mathlib.Core.Path.{_≡_};
 ghost use Rattle.questions.specs.Questions.{firstMissed};
 ghost use Rattle.params.specs.Scan.{xheightInRange, scanQuestions, dpiQuestions, xheightQuestions};

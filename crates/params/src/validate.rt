@@ -7,12 +7,14 @@ ghost use Rattle.params.specs.Settings.{validateQuestions, settingsQuest
 use crate::settings::FusionParams;
 use crate::settings::RulingsParams;
 
+// Finite, size at most 1,000,000.
 fn bounded(x: f64) -> bool
     ensures { λ r. ⌜ r ≡ bounded x ⌝ }
 {
     math::select::finite(x) & (math::select::abs(x) <= 1000000.0)
 }
 
+// No early way out, so that the invariant is one equation.
 fn all_bounded(values: &[f64]) -> bool
     ensures { λ r. ⌜ r ≡ every bounded (now (values .entry)) ⌝ }
 {
@@ -125,19 +127,21 @@ pub fn validate(p: RulingsParams) -> u32
     0
 }
 
+// Finite, 0 to 1,000,000.
 fn from_zero_to_million(x: f64) -> bool
     ensures { λ r. ⌜ r ≡ fromZeroToMillion x ⌝ }
 {
     math::select::finite(x) & (0.0 <= x) & (x <= 1000000.0)
 }
 
+// Question 12.
 fn caps_in_range(f: FusionParams) -> bool
     ensures { λ r. ⌜ r ≡ capsInRange f ⌝ }
 {
     from_zero_to_million(f.llr_clip) & from_zero_to_million(f.group_cap)
 }
 
-// Question 12.
+// Question 12, where `llr_clip` and `group_cap` are given.
 pub fn missed_by_fusion(f: FusionParams) -> u32
     ensures { λ r. ⌜ r ≡ firstMissed (fusionQuestions f) ⌝ }
 {
@@ -151,7 +155,7 @@ pub fn missed_by_free_rules(p: RulingsParams) -> u32
     if 1 <= p.min_free_rules { 0 } else { 13 }
 }
 
-// Questions 7 to 11 and 13.
+// Questions 7 to 11 and 13: what a call asks that is given the settings alone.
 pub fn missed_by_settings(p: RulingsParams) -> u32
     ensures { λ r. ⌜ r ≡ firstMissed (settingsQuestions p) ⌝ }
 {
