@@ -151,10 +151,10 @@ at-most-whole n m e (fin false k g) v h =
     (le-of-eq (ap (λ (z : ℕ). z * down e) (sym (mul-one (k * up g)) ∙ v .1) ∙ mul-right-comm n (down g) (down e))))
     (down-pos g)
 
-pub abs-at-most : (n : ℕ) (x y : Float) → HasValue y false n 1 → finite x ≡ true → le (absolute x) y ≡ true → AtMost n x
-abs-at-most n nan y v f h = absurd (true≢false (sym f))
-abs-at-most n (inf s) y v f h = absurd (true≢false (sym f))
-abs-at-most n (fin s m e) y v f h = record { finite = tt; size = at-most-whole n m e y v h }
+pub size-at-most : (n : ℕ) (x y : Float) → HasValue y false n 1 → finite x ≡ true → le (absolute x) y ≡ true → AtMost n x
+size-at-most n nan y v f h = absurd (true≢false (sym f))
+size-at-most n (inf s) y v f h = absurd (true≢false (sym f))
+size-at-most n (fin s m e) y v f h = record { finite = tt; size = at-most-whole n m e y v h }
 
 -- a set sign that is not below zero stands before 0
 zero-size : (m : ℕ) (e : ℤ) → le Constants.zero (fin true m e) ≡ true → m * up e ≡ 0

@@ -10,7 +10,7 @@ use lib.Ieee.Scale.{finite}
 use borrow.Author.Tests.{not-true}
 use Rattle.math.specs.Constants.{zero, million}
 use Rattle.math.proofs.Bound.{AtMost}
-use Rattle.math.proofs.Limit.{abs-at-most, between-at-most, from-zero, above-zero}
+use Rattle.math.proofs.Limit.{size-at-most, between-at-most, from-zero, above-zero}
 use Rattle.params.specs.Constants.{one, largestXheight}
 use Rattle.params.specs.Scan.{xheightInRange}
 use Rattle.params.specs.Settings.{bounded, notNegative, fromZeroToOne, fromZeroToMillion}
@@ -40,7 +40,7 @@ pub record XHeight (x : Float) : Type 0 where
   pub not-below : lt x zero ≡ false
 
 pub bounded-says : (x : Float) → bounded x ≡ true → AtMost 1_000_000 x
-bounded-says x h = let b = both-true (finite x) _ h in abs-at-most 1_000_000 x million million-value (b .0) (b .1)
+bounded-says x h = let b = both-true (finite x) _ h in size-at-most 1_000_000 x million million-value (b .0) (b .1)
 
 pub not-negative-says : (x : Float) → notNegative x ≡ true → lt x zero ≡ false
 not-negative-says x h = not-true (lt x zero) h

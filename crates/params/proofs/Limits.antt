@@ -21,7 +21,7 @@ use Rattle.params.specs.declared.settings.RulingsParams.{RulingsParams}
 use Rattle.params.specs.Scan.{dpiGiven, xheightInRange, scanQuestions, dpiQuestions, xheightQuestions}
 use Rattle.params.proofs.Every.{both-true}
 use Rattle.params.proofs.Bounds.{XHeight, xheight-says}
-use Rattle.params.proofs.Passed.{Settings}
+use Rattle.params.proofs.Passed.{Validated}
 
 -- ---- the scan
 
@@ -88,12 +88,12 @@ pub record Limits (p : RulingsParams) (xheight : Float) : Type 0 where
   pub «line_cluster» : UpTo (1_000_000 * 4096) (roundedProduct (p .«line_cluster_xh») xheight)
   pub «grid_align» : UpTo (2 * 1_000_000 * 4096) (roundedProduct (mul binary64 two (p .«grid_align_xh»)) xheight)
 
-pub limits : (p : RulingsParams) (xheight : Float) → Settings p → XHeight xheight → Limits p xheight
-limits p xheight s x =
+pub limits : (p : RulingsParams) (xheight : Float) → Validated p → XHeight xheight → Limits p xheight
+limits p xheight v x =
     record {
-      «merge_across» = limit-up-to (p .«merge_across_xh») xheight (s .floats .«merge_across_xh») (s .lengths .«merge_across_xh») x;
-      «merge_gap» = limit-up-to (p .«merge_gap_xh») xheight (s .floats .«merge_gap_xh») (s .lengths .«merge_gap_xh») x;
-      «join_tol» = limit-up-to (p .«join_tol_xh») xheight (s .floats .«join_tol_xh») (s .lengths .«join_tol_xh») x;
-      «line_cluster» = limit-up-to (p .«line_cluster_xh») xheight (s .floats .«line_cluster_xh») (s .lengths .«line_cluster_xh») x;
-      «grid_align» = doubled-limit-up-to (p .«grid_align_xh») xheight (s .floats .«grid_align_xh») (s .lengths .«grid_align_xh») x;
+      «merge_across» = limit-up-to (p .«merge_across_xh») xheight (v .floats .«merge_across_xh») (v .lengths .«merge_across_xh») x;
+      «merge_gap» = limit-up-to (p .«merge_gap_xh») xheight (v .floats .«merge_gap_xh») (v .lengths .«merge_gap_xh») x;
+      «join_tol» = limit-up-to (p .«join_tol_xh») xheight (v .floats .«join_tol_xh») (v .lengths .«join_tol_xh») x;
+      «line_cluster» = limit-up-to (p .«line_cluster_xh») xheight (v .floats .«line_cluster_xh») (v .lengths .«line_cluster_xh») x;
+      «grid_align» = doubled-limit-up-to (p .«grid_align_xh») xheight (v .floats .«grid_align_xh») (v .lengths .«grid_align_xh») x;
     }

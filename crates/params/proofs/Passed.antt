@@ -2,19 +2,19 @@
 use mathlib.Core.Path.{_≡_}
 use Prim.Native.Nat.{_≤_}
 use mathlib.Core.Bool.{true, false, _&&_}
-use mathlib.Core.List.{[], _∷_}
+use mathlib.Core.List.{List, [], _∷_, _++_}
 use lib.Dec.{leb}
 use lib.Ieee.{lt, le}
 use borrow.Author.Tests.{leb-true}
 use Rattle.math.specs.Constants.{zero}
 use Rattle.math.proofs.Bound.{AtMost}
-use Rattle.questions.specs.Questions.{firstMissed}
-use Rattle.questions.proofs.FirstMissed.{all-yes}
+use Rattle.questions.specs.Questions.{Question, firstMissed}
+use Rattle.questions.proofs.FirstMissed.{AllYes, all-yes}
 use Rattle.params.specs.declared.settings.RulingsParams.{RulingsParams}
 use Rattle.params.specs.declared.settings.FusionParams.{FusionParams}
 use Rattle.params.specs.Settings.{every, fromZeroToOne, floatSettings, lengthSettings, shareSettings}
 use Rattle.params.specs.Settings.{floatsBounded, lengthsNotNegative, boxSizesOrdered, sharesInRange, minimaInRange, capsInRange, freeRulesCounted}
-use Rattle.params.specs.Settings.{settingsQuestions, fusionQuestions}
+use Rattle.params.specs.Settings.{validateQuestions, fusionQuestions, freeRulesQuestions, settingsQuestions}
 use Rattle.params.proofs.Every.{each, both-true}
 use Rattle.params.proofs.Bounds.{From0To, bounded-says, not-negative-says, from-zero-to-one-says, from-zero-to-million-says}
 
@@ -157,27 +157,42 @@ caps-say f h =
     let e = each from-zero-to-million-says (f .«llr_clip» ∷ f .«group_cap» ∷ []) h in
     record { «llr_clip» = e .0; «group_cap» = e .1 .0 }
 
--- what a guard that gave 0 says: questions 7 to 11 and 13
-pub record Settings (p : RulingsParams) : Type 0 where
+-- question 13
+pub free-rules-say : (p : RulingsParams) → freeRulesCounted p ≡ true → 1 ≤ p .«min_free_rules»
+unfolding freeRulesCounted
+free-rules-say p h = leb-true 1 (p .«min_free_rules») h
+
+-- questions 7 to 11
+pub record Validated (p : RulingsParams) : Type 0 where
   pub floats : FloatsBounded p
   pub lengths : LengthsNotNegative p
   pub sizes : le (p .«box_min_xh») (p .«box_max_xh») ≡ true
   pub shares : SharesInRange p
   pub minima : MinimaInRange p
-  pub «min_free_rules» : 1 ≤ p .«min_free_rules»
 
-pub settings-passed : (p : RulingsParams) → firstMissed (settingsQuestions p) ≡ 0 → Settings p
-unfolding boxSizesOrdered freeRulesCounted
-settings-passed p h =
-    let yes = all-yes (settingsQuestions p) tt h in
-    record {
-      floats = floats-say p (yes .0);
-      lengths = lengths-say p (yes .1 .0);
-      sizes = yes .1 .1 .0;
-      shares = shares-say p (yes .1 .1 .1 .0);
-      minima = minima-say p (yes .1 .1 .1 .1 .0);
-      «min_free_rules» = leb-true 1 (p .«min_free_rules») (yes .1 .1 .1 .1 .1 .0);
-    }
+-- whatever is asked after them
+pub validate-says : (p : RulingsParams) (later : List Question) → AllYes (validateQuestions p ++ later) → Validated p
+unfolding boxSizesOrdered
+validate-says p later answers = record {
+  floats = floats-say p (answers .0);
+  lengths = lengths-say p (answers .1 .0);
+  sizes = answers .1 .1 .0;
+  shares = shares-say p (answers .1 .1 .1 .0);
+  minima = minima-say p (answers .1 .1 .1 .1 .0);
+}
+
+-- ---- after a guard that gave 0
+
+pub validate-passed : (p : RulingsParams) → firstMissed (validateQuestions p) ≡ 0 → Validated p
+validate-passed p h = validate-says p [] (all-yes (validateQuestions p) tt h)
 
 pub fusion-passed : (f : FusionParams) → firstMissed (fusionQuestions f) ≡ 0 → CapsInRange f
 fusion-passed f h = caps-say f (all-yes (fusionQuestions f) tt h .0)
+
+pub free-rules-passed : (p : RulingsParams) → firstMissed (freeRulesQuestions p) ≡ 0 → 1 ≤ p .«min_free_rules»
+free-rules-passed p h = free-rules-say p (all-yes (freeRulesQuestions p) tt h .0)
+
+pub settings-passed : (p : RulingsParams) → firstMissed (settingsQuestions p) ≡ 0 → Validated p × (1 ≤ p .«min_free_rules»)
+settings-passed p h =
+    let answers = all-yes (settingsQuestions p) tt h in
+    (validate-says p (freeRulesQuestions p) answers, free-rules-say p (answers .1 .1 .1 .1 .1 .0))
