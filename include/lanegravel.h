@@ -30,6 +30,62 @@ int64_t lanegravel_rounded_product(double a, double b);
  * The sign of x stays, also on a zero; infinities and NaN stay. */
 double lanegravel_round(double x);
 
+/* The settings. A name that ends in _xh is in x-heights, one that ends in _in is in inches. */
+struct lanegravel_rulings_params {
+    double merge_across_xh;
+    double merge_gap_xh;
+    double rule_min_contrast;
+    double fold_min_length_in;
+    double join_tol_xh;
+    uint32_t table_min_horizontal;
+    uint32_t table_min_vertical;
+    double line_cluster_xh;
+    double table_prior;
+    double table_cells_coef;
+    double table_cells_cap;
+    double table_junction_coef;
+    uint32_t min_free_rules;
+    double free_rules_prior;
+    double free_rules_coef;
+    double free_rules_cap;
+    double box_min_xh;
+    double box_min_in;
+    double box_max_xh;
+    double box_overshoot_fraction;
+    double box_aspect_tol;
+    uint32_t box_tolerance_px;
+    double box_edge_coverage;
+    double box_max_inner_ink;
+    double box_checked_ink;
+    double grid_align_xh;
+    uint32_t grid_min_boxes;
+    double grid_prior;
+    double grid_coef;
+    double grid_cap;
+};
+
+/* The bounds of the log odds. */
+struct lanegravel_fusion_params {
+    double llr_clip;
+    double group_cap;
+};
+
+/* 0 where the settings are in their ranges, and otherwise the number of the first question that
+ * they miss:
+ *    7  every double is finite and from -1,000,000 to 1,000,000;
+ *    8  merge_across_xh, merge_gap_xh, join_tol_xh, line_cluster_xh, box_min_xh, box_min_in,
+ *       grid_align_xh and fold_min_length_in are not below 0;
+ *    9  box_max_xh is at least box_min_xh;
+ *   10  box_edge_coverage, box_max_inner_ink, box_checked_ink, box_aspect_tol and
+ *       box_overshoot_fraction are from 0 to 1, box_tolerance_px is at most 3;
+ *   11  table_min_horizontal and table_min_vertical are at least 1, grid_min_boxes at least 2;
+ *   13  min_free_rules is at least 1.
+ * Minus zero is not below 0. */
+uint32_t lanegravel_validate(struct lanegravel_rulings_params p);
+
+/* 0 where llr_clip and group_cap are finite and from 0 to 1,000,000, and otherwise 12. */
+uint32_t lanegravel_validate_fusion(struct lanegravel_fusion_params f);
+
 #ifdef __cplusplus
 }
 #endif
