@@ -5,6 +5,7 @@
 
 mod ffi;
 mod floats;
+mod params;
 mod random;
 mod replay;
 mod tally;
@@ -23,7 +24,7 @@ struct Comparison {
     run: fn(&mut Random, u64) -> Tally,
 }
 
-const COMPARISONS: [Comparison; 4] = [
+const COMPARISONS: [Comparison; 6] = [
     Comparison {
         name: "pairwise_sum",
         count: 1_000_000,
@@ -43,6 +44,16 @@ const COMPARISONS: [Comparison; 4] = [
         name: "round",
         count: 4_000_000,
         run: floats::round,
+    },
+    Comparison {
+        name: "validate",
+        count: 2_000_000,
+        run: params::validate,
+    },
+    Comparison {
+        name: "validate_fusion",
+        count: 1_000_000,
+        run: params::validate_fusion,
     },
 ];
 
