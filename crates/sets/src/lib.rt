@@ -141,14 +141,14 @@ fn gather_all(
 {
     let mut at = 0;
     let mut count = 0;
-    let mut i = 0;
-    while i < n {
-        if parents[i] as usize == i {
-            at = gather(next, n, members, i, at);
+    let mut root = 0;
+    while root < n {
+        if parents[root] as usize == root {
+            at = gather(next, n, members, root, at);
             ends[count] = at as u32;
             count += 1;
         }
-        i += 1;
+        root += 1;
     }
     count
 }

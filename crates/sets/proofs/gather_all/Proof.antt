@@ -111,10 +111,10 @@ moved : {n : ℕ} {p m₀ e₀ m e m′ e′ : List ℕ} {at count at′ count�
 moved G a b c d = rw (a, b, c, d) G
 
 abbrev Inv-loop : tie.InvT-loop
-Inv-loop parents n next members₀ ends₀ at₀ count₀ i₀ members ends at count i = Gathering n parents members₀ ends₀ members ends at count i
+Inv-loop parents n next members₀ ends₀ at₀ count₀ root₀ members ends at count root = Gathering n parents members₀ ends₀ members ends at count root
 
 abbrev μ-loop : tie.MeasureT-loop
-μ-loop parents n next members₀ ends₀ at₀ count₀ i₀ members ends at count i = n - i
+μ-loop parents n next members₀ ends₀ at₀ count₀ root₀ members ends at count root = n - root
 
 loop-holds : tie.Need-loop-holds Inv-loop μ-loop
 loop-holds c = start
@@ -126,7 +126,7 @@ shared-slice-read-if1 : tie.Need-shared-slice-read-if1 Inv-loop μ-loop
 shared-slice-read-if1 c = omega arith
 
 cast-if1 : tie.Need-cast-if1 Inv-loop μ-loop
-cast-if1 c = omega (arith, c .shared-slice-known3 .given (c .before .before .loop .i))
+cast-if1 c = omega (arith, c .shared-slice-known3 .given (c .before .before .loop .root))
 
 gather-requires : tie.Need-gather-requires Inv-loop μ-loop
 gather-requires c κs = (threaded-rises (c .before .before .before .before .before .before .before .before .before .pre .0) (c .before .before .before .before .before .before .before .before .before .pre .1), c .before .before .before .loop-test .taken, fitting (c .before .before .before .before .before .before .before .before .before .pre .0) (c .before .before .before .before .before .before .before .before .before .pre .1) (c .before .before .before .before .before .before .before .before .before .pre .2) (c .before .before .before .before .before .before .before .before .before .pre .3) (c .before .before .before .before .loop .inv) (c .before .before .before .loop-test .taken) (c .before .if1 .taken))
@@ -143,8 +143,8 @@ slice-write-ends c = omega (arith, counted (c .before .before .before .before .b
 add-count : tie.Need-add-count Inv-loop μ-loop
 add-count c = omega (arith, counted (c .before .before .before .before .before .before .before .before .before .before .before .before .pre .0) (c .before .before .before .before .before .before .before .before .before .before .before .before .pre .1) (c .before .before .before .before .before .before .before .before .before .before .before .before .pre .2) (c .before .before .before .before .before .before .before .before .before .before .before .before .pre .3) (c .before .before .before .before .before .before .before .loop .inv) (c .before .before .before .before .before .before .loop-test .taken))
 
-add-i : tie.Need-add-i Inv-loop μ-loop
-add-i c = omega arith
+add-root : tie.Need-add-root Inv-loop μ-loop
+add-root c = omega arith
 
 loop-less : tie.Need-loop-less Inv-loop μ-loop
 loop-less c = omega arith
@@ -178,7 +178,7 @@ gather-all-spec =
     mul-ends
     slice-write-ends
     add-count
-    add-i
+    add-root
     loop-less
     loop-again
     same-length
