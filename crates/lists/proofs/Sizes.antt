@@ -1,5 +1,5 @@
 -- How many entries pass a test, and tests over the numbers below n.
-use mathlib.Core.Path.{_≡_, refl, sym, ap, _∙_}
+use mathlib.Core.Path.{_≡_, refl, ap, _∙_}
 use mathlib.Core.Bool.{Bool, true, false, cond}
 use mathlib.Core.List.{List, [], _∷_, _++_, append-nil}
 use Prim.Native.Nat.{ℕ, zero, suc, _+_, _≤_, _<_, zero-le}
@@ -8,7 +8,7 @@ use native.Mathlib.Decide.{le-ind}
 use native.Mathlib.Omega.{arith}
 use lib.ListN.{length}
 use Rattle.lists.specs.Lists.{below, keep}
-use Rattle.lists.proofs.Keep.{keep-append, length-below}
+use Rattle.lists.proofs.Keep.{keep-append}
 
 -- 1 for a test that passes, and 0 for one that fails
 abbrev pub one : Bool → ℕ
@@ -53,3 +53,7 @@ module _ (q : ℕ → Bool) where
 
   pub keep-none : (n : ℕ) → ((m : ℕ) → m < n → q m ≡ false) → keep q (below n) ≡ []
   keep-none n h = keep-gap 0 n zero-le (λ m a b. h m b)
+
+  pub keep-all : (n : ℕ) → ((m : ℕ) → m < n → q m ≡ true) → keep q (below n) ≡ below n
+  keep-all zero h = refl
+  keep-all (suc n) h = keep-one n (h n (lt-suc-self n)) ∙ ap (λ (s : List ℕ). s ++ (n ∷ [])) (keep-all n (λ m l. h m (le-step l)))

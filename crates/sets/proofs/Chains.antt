@@ -1,6 +1,6 @@
 -- Laws of chains: they are put together, turned round, and carried from one rule to another.
 use mathlib.Core.Path.{_≡_, refl, sym, _∙_}
-use mathlib.Core.Logic.{_⊎_, inl, inr, ⊎-elim, ⊎-swap}
+use mathlib.Core.Logic.{inl, inr, ⊎-elim}
 use Prim.Native.Nat.{ℕ}
 use Rattle.sets.specs.Closed.{Touching, Chain, here, next}
 

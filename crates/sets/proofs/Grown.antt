@@ -1,9 +1,9 @@
 -- What `closedSets` computes is the listing of the closed sets. A set that is grown n times stays: each time it stays or gets longer, and it never
 -- gets longer than n.
 use mathlib.Core.Path.{_≡_, refl, sym, ap, subst, _∙_}
-use mathlib.Core.Bool.{Bool, true, false, _||_, false≢true}
+use mathlib.Core.Bool.{Bool, true, false, _||_}
 use mathlib.Core.Logic.{_⊎_, inl, inr, ⊎-elim}
-use mathlib.Core.List.{List, [], _∷_, map, List·Memᴰ·head, List·Memᴰ·tail, List·Memᴰ·eq-of-singleton, List·Memᴰ·not-nil}
+use mathlib.Core.List.{List, [], _∷_, List·Memᴰ·head, List·Memᴰ·eq-of-singleton, List·Memᴰ·not-nil}
 use Prim.Native.Nat.{ℕ, zero, suc, _≤_, _<_}
 use native.Mathlib.Nat.{le-refl}
 use native.Mathlib.Decide.{decLe}
@@ -12,8 +12,8 @@ use lib.Dec.{eqb}
 use lib.ListN.{length, getD}
 use borrow.Author.Tests.{eqb-true, eq-eqb}
 use Rattle.lists.specs.Lists.{below, keep, any, In}
-use Rattle.lists.proofs.Keep.{length-below, in-below, below-in, kept-in, in-kept, any-true, true-any, keep-below-same, map-same}
-use Rattle.sets.specs.Closed.{Below, Touching, Chain, here, next, Ascending, nothing, before, Listed}
+use Rattle.lists.proofs.Keep.{length-below, in-below, below-in, kept-in, in-kept, any-true, true-any, map-same}
+use Rattle.sets.specs.Closed.{Below, Touching, Chain, here, Ascending, nothing, before, Listed}
 use Rattle.sets.specs.Joins.{Represents}
 use Rattle.sets.specs.Listing.{grow, grown, closedSet, closedSets, classOf, classes}
 use Rattle.sets.proofs.Ascending.{ascending-below, ascending-keep, ascending-same, first-least, sublist}

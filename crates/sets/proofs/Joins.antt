@@ -3,16 +3,16 @@ use mathlib.Core.Path.{_≡_, refl, sym, ap, _∙_}
 use mathlib.Core.Bool.{Bool, true, false, cond, false≢true}
 use mathlib.Core.Logic.{_⊎_, inl, inr, ⊎-elim}
 use mathlib.Core.List.{List}
-use Prim.Native.Nat.{ℕ, _≤_, _<_, min, max}
+use Prim.Native.Nat.{ℕ, _<_, min, max}
 use native.Mathlib.Decide.{decLe}
 use native.Mathlib.Omega.{arith}
 use lib.Dec.{eqb}
-use lib.ListN.{length, getD}
+use lib.ListN.{getD}
 use borrow.Author.Tests.{eqb-true, eq-eqb}
 use Rattle.lists.specs.Lists.{below, written}
 use Rattle.lists.proofs.Keep.{length-below, getD-below}
 use Rattle.lists.proofs.Written.{written-length, written-at}
-use Rattle.sets.specs.Closed.{Touching, Chain, here, next, Smallest}
+use Rattle.sets.specs.Closed.{Touching, Chain, here}
 use Rattle.sets.specs.Joins.{Joins}
 use Rattle.sets.specs.Parents.{Room, Parents, root, merged, Joined}
 use Rattle.sets.proofs.Chains.{chain-append, chain-back, chain-step, chain-map}

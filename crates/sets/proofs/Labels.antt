@@ -1,10 +1,9 @@
 -- Flattened parents: each entry is the root of its index, and so the smallest index of its closed set.
-use mathlib.Core.Path.{_≡_, refl, sym, ap, _∙_}
+use mathlib.Core.Path.{_≡_, sym, ap, _∙_}
 use mathlib.Core.List.{List, map}
-use Prim.Native.Nat.{ℕ, _≤_, _<_}
+use Prim.Native.Nat.{ℕ, _<_}
 use native.Mathlib.Nat.{lt-of-le-of-lt}
-use native.Mathlib.Omega.{arith}
-use lib.ListN.{length, getD}
+use lib.ListN.{getD}
 use Rattle.lists.specs.Lists.{below, written}
 use Rattle.lists.proofs.Keep.{length-values, getD-values}
 use Rattle.lists.proofs.Written.{written-length, written-at}

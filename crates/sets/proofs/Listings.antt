@@ -3,7 +3,7 @@ use mathlib.Core.Path.{_≡_, refl, sym, ap, ap₂, _∙_}
 use mathlib.Core.Bool.{Bool}
 use mathlib.Core.List.{List, [], _∷_, _++_, append-assoc}
 use Prim.Native.Nat.{ℕ, zero, suc, _+_, _-_, _≤_, _<_}
-use native.Mathlib.Nat.{not-suc-le-zero, le-of-suc-le-suc}
+use native.Mathlib.Nat.{not-suc-le-zero, le-of-suc-le-suc, lt-of-le-of-lt}
 use native.Mathlib.Decide.{decLt}
 use native.Mathlib.Omega.{arith}
 use lib.ListN.{length, getD, take, drop, length-append, List·getD-eq-default}
@@ -12,12 +12,13 @@ use borrow.Author.Tests.{lt-ltb, le-ltb, le-leb}
 use Rattle.lists.specs.Lists.{concat, written}
 use Rattle.lists.proofs.Written.{written-length, written-at}
 use Rattle.sets.specs.Closed.{Below, Listed}
-use Rattle.sets.specs.Listing.{closedSets, classes, endsFrom, startOf, membersOf}
+use Rattle.sets.specs.Listing.{closedSets, classes, endsFrom, startOf, membersOf, Listing}
 use Rattle.sets.specs.Joins.{Joins}
-use Rattle.sets.specs.Parents.{root}
+use Rattle.sets.specs.Parents.{Parents, root}
 use Rattle.sets.proofs.Classes.{classes-listed}
 use Rattle.sets.proofs.Grown.{Holds, classes-closedSets}
-use Rattle.sets.proofs.Sizes.{length-ends}
+use Rattle.sets.proofs.Sizes.{classes-all, classes-count, classes-total, length-ends}
+use Rattle.sets.proofs.Roots.{root-le, root-root}
 
 -- where every test passes, the part stands between the bounds
 pub members-inside : (members ends : List ℕ) (count k : ℕ) → k < count → k < length ends → startOf ends k ≤ getD ends k 0
@@ -94,3 +95,17 @@ module _ (ss : List (List ℕ)) (m e : List ℕ) (room : length (concat ss) ≤ 
           ∙ ap₂ (λ (x y : ℕ). take x (drop y (written (concat ss) m))) size start
           ∙ part-at ss (drop (length (concat ss)) m) k h
       go (no h) = simp (le-ltb k (length ss) (omega arith)) (sym (List·getD-eq-default ss [] (omega arith)))
+
+-- a listing that `list` made has n members in all, and each of its numbers gives its set back
+module _ {n : ℕ} {p : List ℕ} (P : Parents n p) where
+  pub listing-total : length (concat (classes n (root p))) ≡ n
+  listing-total = classes-total n (root p) (root-root P) (λ i l. lt-of-le-of-lt (root-le P i l) l)
+
+  pub listing-count : length (classes n (root p)) ≤ n
+  listing-count = rw (sym (classes-all n (root p))) (classes-count n (root p) n)
+
+  pub listing-set : {m e p′ m′ e′ : List ℕ} {r : ℕ} → n ≤ length m → n ≤ length e → Listing n p m e p′ m′ e′ r → (k : ℕ)
+      → membersOf m′ e′ r k ≡ getD (classes n (root p)) k []
+  listing-set {m} {e} hm he L k =
+      rw (L .members, L .ends, L .count)
+      (members-listed (classes n (root p)) m e (omega (arith, listing-total)) (omega (arith, listing-count)) k)

@@ -1,17 +1,16 @@
 -- A caller that tries all pairs i < j in order: which pairs it has seen, and that in the end they are the whole rule.
-use mathlib.Core.Path.{_≡_, refl, sym, ap, _∙_}
+use mathlib.Core.Path.{_≡_, refl}
 use mathlib.Core.Bool.{Bool, true}
-use mathlib.Core.Logic.{_⊎_, inl, inr, ⊎-elim}
+use mathlib.Core.Logic.{_⊎_, inl, inr}
 use mathlib.Core.List.{List}
-use Prim.Native.Nat.{ℕ, suc, _+_, _≤_, _<_}
-use native.Mathlib.Nat.{eq-or-lt-of-le}
+use Prim.Native.Nat.{ℕ, _+_, _≤_, _<_}
 use native.Mathlib.Decide.{decLt, ℕ-discrete}
 use native.Mathlib.Omega.{arith}
 use Rattle.lists.specs.Lists.{below, written}
 use Rattle.sets.specs.Closed.{Touching, Chain, here}
 use Rattle.sets.specs.Joins.{Joins, Seen}
 use Rattle.sets.specs.Parents.{Room, Joined}
-use Rattle.sets.proofs.Chains.{chain-step, chain-back}
+use Rattle.sets.proofs.Chains.{chain-step}
 use Rattle.sets.proofs.Joins.{joins-none, joins-more, joins-same, joins-exchange}
 
 -- no pair stands before the first of row 0

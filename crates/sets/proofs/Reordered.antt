@@ -1,12 +1,12 @@
 -- A listing in another order, or of a rule that is the same on the domain, lists the same closed sets.
-use mathlib.Core.Path.{_≡_, refl, sym, ap, _∙_}
-use mathlib.Core.Logic.{inl, ⊎-elim, ⊎-map}
+use mathlib.Core.Path.{_≡_, sym, ap, _∙_}
+use mathlib.Core.Logic.{inl, ⊎-map}
 use mathlib.Core.List.{List, [], map}
 use Prim.Native.Nat.{ℕ, _<_}
 use lib.ListN.{length, getD, length-map}
 use Rattle.lists.specs.Lists.{In}
 use Rattle.lists.proofs.Keep.{in-at, getD-map}
-use Rattle.sets.specs.Closed.{Touching, Chain, Closed, Once, Listed}
+use Rattle.sets.specs.Closed.{Closed, Listed}
 use Rattle.sets.proofs.Chains.{chain-step, chain-map}
 
 -- place k of the second listing holds the set that has the number `from k` in the first, and each number stands at one place

@@ -1,11 +1,11 @@
 -- A function that gives each index of a domain the smallest index of its closed set. The roots of parents are one, once the caller's rule is joined.
-use mathlib.Core.Path.{_≡_, refl, sym, ap, _∙_}
-use Prim.Native.Nat.{ℕ, _≤_, _<_}
+use mathlib.Core.Path.{_≡_, sym}
+use Prim.Native.Nat.{ℕ, _≤_}
 use native.Mathlib.Nat.{le-antisymm}
 use native.Mathlib.Omega.{arith}
-use Rattle.sets.specs.Closed.{Touching, Chain, here, next, Smallest}
+use Rattle.sets.specs.Closed.{Chain, Smallest}
 use Rattle.sets.specs.Joins.{Represents}
-use Rattle.sets.proofs.Chains.{chain-first, chain-last, chain-agree, chain-map}
+use Rattle.sets.proofs.Chains.{chain-last, chain-agree, chain-map}
 
 module _ {D : ℕ → Type 0} {R : ℕ → ℕ → Type 0} {f : ℕ → ℕ} (F : Represents D R f) where
   pub along : {i j : ℕ} → Chain D R i j → f i ≡ f j

@@ -2,14 +2,14 @@
 -- on roots, is `root`.
 use mathlib.Core.Path.{_≡_, refl, sym, ap, _∙_}
 use mathlib.Core.Bool.{Bool, true, false, cond}
-use mathlib.Core.Logic.{_⊎_, inl, inr, ⊎-elim, _≢_}
+use mathlib.Core.Logic.{_⊎_, inl, inr, ⊎-elim}
 use mathlib.Core.List.{List}
-use Prim.Native.Nat.{ℕ, zero, suc, _+_, _≤_, _<_, min, max}
+use Prim.Native.Nat.{ℕ, zero, suc, _≤_, _<_, min, max}
 use native.Mathlib.Nat.{eq-or-lt-of-le, le-refl, max-comm, min-comm}
 use native.Mathlib.Decide.{le-ind, ℕ-discrete}
 use native.Mathlib.Omega.{arith}
 use lib.Dec.{eqb}
-use lib.ListN.{length, getD, set, length-set, drop}
+use lib.ListN.{getD, set, length-set}
 use lib.Seq.{getD-set-same, getD-set-other, drop-set-lt}
 use borrow.Author.Tests.{eq-eqb, ne-eqb}
 use Rattle.sets.specs.Parents.{Parents, climb, root, SameRoots, merged, Joined}
@@ -128,7 +128,7 @@ module _ {n : ℕ} {p : List ℕ} (P : Parents n p) where
       store-same i (getD p (getD p i 0) 0) l (omega arith) (root-parent P (getD p i 0) (omega arith) ∙ root-parent P i l) (λ e. omega arith)
 
   -- a root stored at a larger one joins the two sets
-  pub joined-roots : (a b : ℕ) → a ≤ b → b < n → getD p a 0 ≡ a → getD p b 0 ≡ b → (k : ℕ) → k < n → root (set p b a) k ≡ merged a b (root p k)
+  joined-roots : (a b : ℕ) → a ≤ b → b < n → getD p a 0 ≡ a → getD p b 0 ≡ b → (k : ℕ) → k < n → root (set p b a) k ≡ merged a b (root p k)
   joined-roots a b h l fa fb k m =
       root-unique (parents-set P b a l h) (λ j. merged a b (root p j)) (λ j w. keeps j w (ℕ-discrete j b)) (λ j w. ends j w (ℕ-discrete j b)) k m
     where

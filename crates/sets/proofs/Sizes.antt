@@ -1,17 +1,15 @@
 -- The sets that are listed so far have together as many members as indexes with a smaller root: never more than n.
-use mathlib.Core.Path.{_≡_, refl, sym, ap, subst, _∙_}
-use mathlib.Core.Bool.{Bool, true, false}
+use mathlib.Core.Path.{_≡_, refl, sym, ap, _∙_}
 use mathlib.Core.List.{List, [], _∷_, _++_, map, append-nil}
 use Prim.Native.Nat.{ℕ, zero, suc, _+_, _≤_, _<_}
-use native.Mathlib.Nat.{not-suc-le-zero}
 use native.Mathlib.Decide.{decLt, ℕ-discrete}
 use native.Mathlib.Omega.{arith}
 use lib.Dec.{eqb, ltb}
 use lib.ListN.{length, length-append, length-map}
-use borrow.Author.Tests.{eq-eqb, ne-eqb, lt-ltb, le-ltb, eqb-true, eqb-false}
+use borrow.Author.Tests.{eq-eqb, ne-eqb, lt-ltb, le-ltb}
 use Rattle.lists.specs.Lists.{below, keep, concat}
 use Rattle.lists.proofs.Keep.{length-below, map-append, concat-append}
-use Rattle.lists.proofs.Sizes.{one, keep-size-le, keep-size-split, keep-one, keep-past, keep-none}
+use Rattle.lists.proofs.Sizes.{one, keep-size-le, keep-size-split, keep-one, keep-past, keep-none, keep-all}
 use Rattle.sets.specs.Listing.{classOf, classes, endsFrom}
 
 -- The classes with a root below m.
@@ -70,6 +68,12 @@ module _ (n : ℕ) (f : ℕ → ℕ) (fixed : (i : ℕ) → i < n → f (f i) �
       go e (no h) =
           let empty : length (classOf n f m) ≡ 0 = ap length (keep-none (λ j. eqb (f j) m) n (λ j l. ne-eqb (f j) m (λ g. h (sym (ap f g) ∙ fixed j l ∙ g)))) in
           ap (λ (w : List (List ℕ)). length (concat w)) (classes-past n f m h) ∙ e ∙ omega (arith, parts)
+
+  -- every index below n is in one of the sets
+  pub classes-total : ((i : ℕ) → i < n → f i < n) → length (concat (classes n f)) ≡ n
+  classes-total low =
+      ap (λ (w : List (List ℕ)). length (concat w)) (sym (classes-all n f)) ∙ sizes n
+      ∙ ap length (keep-all (λ j. ltb (f j) n) n (λ j l. lt-ltb (f j) n (low j l))) ∙ length-below n
 
   -- there is room for one set more
   pub classes-fit : (m : ℕ) → f m ≡ m → length (concat (classesTo n f m)) + length (classOf n f m) ≤ n

@@ -11,10 +11,9 @@ use Rattle.lists.specs.Lists.{concat, written}
 use Rattle.sets.specs.Closed.{Below}
 use Rattle.sets.specs.Joins.{Joins}
 use Rattle.sets.specs.Listing.{Listing, endsFrom}
-use Rattle.sets.specs.Parents.{Room}
 use Rattle.sets.proofs.Grown.{closedSets-listed}
 use Rattle.sets.proofs.Listings.{joins-closedSets}
-use Rattle.gaps.specs.Gaps.{touch, Touch, roomFor, gapSets, GapSets}
+use Rattle.gaps.specs.Gaps.{touch, Touch, roomFor, GapSets}
 use Rattle.gaps.proofs.gap_sets.Statement.{statement}
 use Rattle.gaps.proofs.gap_sets.Tie as tie
 
@@ -75,12 +74,18 @@ room-requires c κs = search needs
 
 join-all-requires : tie.Need-join-all-requires
 join-all-requires c κs =
-    let r = rooms (length (c .before .before .before .before .before .before .before .before .args .values .now)) (length (c .before .before .before .before .before .before .before .before .args .parents .now)) (length (c .before .before .before .before .before .before .before .before .args .members .now)) (length (c .before .before .before .before .before .before .before .before .args .ends .now)) (length (c .before .before .before .before .before .before .before .before .args .work .now)) (sym (c .before .before .room .ensures) ∙ c .before .if1 .taken) in
+    let start = c .before .before .before .before .before .before .before .before .args in
+    let r =
+    rooms (length (start .values .now)) (length (start .parents .now)) (length (start .members .now)) (length (start .ends .now))
+    (length (start .work .now)) (sym (c .before .before .room .ensures) ∙ c .before .if1 .taken) in
     record { room = r .parents; small = r .small }
 
 list-requires : tie.Need-list-requires
 list-requires c κs =
-    let r = rooms (length (c .before .before .before .before .before .before .before .before .before .before .before .before .before .before .before .args .values .now)) (length (c .before .before .before .before .before .before .before .before .before .before .before .before .before .before .before .args .parents .now)) (length (c .before .before .before .before .before .before .before .before .before .before .before .before .before .before .before .args .members .now)) (length (c .before .before .before .before .before .before .before .before .before .before .before .before .before .before .before .args .ends .now)) (length (c .before .before .before .before .before .before .before .before .before .before .before .before .before .before .before .args .work .now)) (sym (c .before .before .before .before .before .before .before .before .before .room .ensures) ∙ c .before .before .before .before .before .before .before .before .if1 .taken) in
+    let start = c .before .before .before .before .before .before .before .before .before .before .before .before .before .before .before .args in
+    let r =
+    rooms (length (start .values .now)) (length (start .parents .now)) (length (start .members .now)) (length (start .ends .now))
+    (length (start .work .now)) (sym (c .before .before .before .before .before .before .before .before .before .room .ensures) ∙ c .before .before .before .before .before .before .before .before .if1 .taken) in
     (c .before .before .before .before .before .before .join-all .ensures .parents, r .members, r .ends, r .work)
 
 same-length : tie.Need-same-length
@@ -96,7 +101,10 @@ same-length-4 : tie.Need-same-length-4
 same-length-4 c = search needs
 
 returns : tie.Need-returns
-returns c = accepted (sym (c .before .before .before .before .before .before .before .before .before .before .before .before .before .before .before .before .before .before .room .ensures) ∙ c .before .before .before .before .before .before .before .before .before .before .before .before .before .before .before .before .before .if1 .taken) (c .before .before .before .before .before .before .before .before .before .before .before .before .before .before .before .join-all .ensures) (c .before .before .before .before .before .before .before .before .list .ensures)
+returns c =
+    let joined = c .before .before .before .before .before .before .before .before .before .before .before .before .before .before .before in
+    accepted (sym (joined .before .before .before .room .ensures) ∙ joined .before .before .if1 .taken) (joined .join-all .ensures)
+    (c .before .before .before .before .before .before .before .before .list .ensures)
 
 returns-2 : tie.Need-returns-2
 returns-2 c = refused (sym (c .before .room .ensures) ∙ c .if1 .left)

@@ -1,5 +1,5 @@
 -- `gaps::join_row` meets its contract: each turn sees one pair more.
-use mathlib.Core.Path.{_≡_, refl, sym, ap, _∙_}
+use mathlib.Core.Path.{_≡_, refl, sym, _∙_}
 use mathlib.Core.Bool.{Bool}
 use mathlib.Core.Logic.{⊎-elim, inl}
 use mathlib.Core.List.{List}
@@ -74,7 +74,12 @@ loop-less : tie.Need-loop-less Inv-loop μ-loop
 loop-less c = omega arith
 
 loop-again : tie.Need-loop-again Inv-loop μ-loop
-loop-again c = turn (c .before .before .before .before .near .result) (c .before .before .before .before .before .before .before .before .loop .inv) (c .before .before .before .before .before .before .before .loop-test .taken) (c .before .before .join-if .kept .0) (c .before .before .before .before .near .ensures) (c .before .before .join-if .ensures)
+loop-again c =
+    let joined = c .before .before in
+    let tried = joined .before .before in
+    let turn-start = tried .before .before .before in
+    turn (tried .near .result) (turn-start .before .loop .inv) (turn-start .loop-test .taken) (joined .join-if .kept .0) (tried .near .ensures)
+    (joined .join-if .ensures)
 
 same-length : tie.Need-same-length Inv-loop μ-loop
 same-length c = c .before .loop .inv .long

@@ -1,6 +1,6 @@
 -- `gaps::near` meets its contract: the larger less the smaller.
-use mathlib.Core.Path.{_≡_, refl}
-use Prim.Native.Nat.{ℕ, _-_, _<_, _≤_, min, max}
+use mathlib.Core.Path.{_≡_}
+use Prim.Native.Nat.{ℕ, _-_, _<_, _≤_}
 use native.Mathlib.Nat.{max-eq-left, max-eq-right, min-eq-left, min-eq-right, le-of-lt}
 use lib.Dec.{leb}
 use Rattle.gaps.specs.Gaps.{near}

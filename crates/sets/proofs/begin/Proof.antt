@@ -1,5 +1,5 @@
 -- `sets::begin` meets its contract: after i turns the first i places hold the numbers below i, and the rest is kept.
-use mathlib.Core.Path.{_≡_, refl, _∙_}
+use mathlib.Core.Path.{_≡_, refl}
 use Prim.Native.Nat.{_≤_, _-_}
 use native.Mathlib.Numerals.{add-one}
 use native.Mathlib.Omega.{arith}

@@ -1,5 +1,5 @@
 -- `sets::flatten` meets its contract: going up, a parent below i is a root already, and has the root of i.
-use mathlib.Core.Path.{_≡_, refl, sym, ap, _∙_}
+use mathlib.Core.Path.{_≡_, refl, sym, _∙_}
 use mathlib.Core.Logic.{⊎-elim}
 use mathlib.Core.List.{List, map}
 use Prim.Native.Nat.{ℕ, _≤_, _+_, _<_, _-_}

@@ -5,7 +5,7 @@ use mathlib.Core.List.{List, [], _∷_}
 use Prim.Native.Nat.{ℕ, suc, _+_, _-_, _≤_, _<_}
 use native.Mathlib.Numerals.{add-one}
 use native.Mathlib.Omega.{arith}
-use lib.ListN.{length, getD, set, length-set}
+use lib.ListN.{length, set, length-set}
 use lib.Seq.{sets}
 use Rattle.sets.specs.Threads.{entry, Rising, Trail, last, more, Fitting, Appended}
 use Rattle.sets.proofs.gather.Statement.{statement}

@@ -2,7 +2,7 @@
 use mathlib.Core.Path.{_≡_, refl, sym, ap, ap₂, subst, _∙_}
 use mathlib.Core.Logic.{⊎-elim}
 use mathlib.Core.List.{List, [], _∷_, _++_}
-use Prim.Native.Nat.{ℕ, suc, _+_, _-_, _≤_, _<_, zero-le}
+use Prim.Native.Nat.{ℕ, _+_, _-_, _≤_, _<_, zero-le}
 use native.Mathlib.Nat.{zero-add}
 use native.Mathlib.Numerals.{add-one}
 use native.Mathlib.Omega.{arith}
@@ -10,8 +10,8 @@ use lib.ListN.{length, set, length-set, length-append}
 use lib.Seq.{sets, length-sets}
 use Rattle.lists.specs.Lists.{concat, written}
 use Rattle.lists.proofs.Written.{written-more, written-run}
-use Rattle.sets.specs.Listing.{classOf, classes, endsFrom}
-use Rattle.sets.specs.Threads.{entry, Flat, Threaded, Rising, Trail, Fitting, Appended, Gathered}
+use Rattle.sets.specs.Listing.{classOf, endsFrom}
+use Rattle.sets.specs.Threads.{entry, Flat, Threaded, Trail, Fitting, Appended, Gathered}
 use Rattle.sets.proofs.Sizes.{classesTo, classes-all, classes-none, classes-one, classes-past, classes-count, classes-fit, concat-one, length-ends, ends-one}
 use Rattle.sets.proofs.Trails.{threaded-rises, trail-class}
 use Rattle.sets.proofs.gather_all.Statement.{statement}
@@ -58,37 +58,45 @@ partial-one {ss} {m₀} {e₀} {m} {e} {m′} {at} {count} {end} s P A room more
       ends-long = length-set e count end ∙ P .ends-long;
     }
 
-module _ {n : ℕ} {p next m₀ e₀ m e : List ℕ} {at count i : ℕ} (F : Flat n p) (T : Threaded n p next) (rm : n ≤ length m₀) (re : n ≤ length e₀)
-    (G : Gathering n p m₀ e₀ m e at count i) (l : i < n) where
+-- what is known in a turn of the loop
+record Turn (n : ℕ) (p next m₀ e₀ m e : List ℕ) (at count i : ℕ) : Type 0 where
+  flat : Flat n p
+  threads : Threaded n p next
+  members-room : n ≤ length m₀
+  ends-room : n ≤ length e₀
+  so-far : Gathering n p m₀ e₀ m e at count i
+  inside : i < n
+
+module _ {n : ℕ} {p next m₀ e₀ m e : List ℕ} {at count i : ℕ} (T : Turn n p next m₀ e₀ m e at count i) where
   fit : entry p i ≡ i → at + length (classOf n (entry p) i) ≤ n
-  fit h = rw (G .part .place) (classes-fit n (entry p) (F .fixed) i h)
+  fit h = rw (T .so-far .part .place) (classes-fit n (entry p) (T .flat .fixed) i h)
 
   fitting : entry p i ≡ i → Fitting next i m at
   fitting h =
       record {
         met = classOf n (entry p) i;
-        trail = trail-class F T i l h;
-        fits = omega (arith, fit h, G .part .members-long);
+        trail = trail-class (T .flat) (T .threads) i (T .inside) h;
+        fits = omega (arith, fit h, T .members-room, T .so-far .part .members-long);
       }
 
   counted : count ≤ i
-  counted = rw (G .part .number) (classes-count n (entry p) i)
+  counted = rw (T .so-far .part .number) (classes-count n (entry p) i)
 
-  turn : {m′ : List ℕ} {end : ℕ} → entry p i ≡ i → ((t : List ℕ) → Trail next i t → Appended m at t m′ end)
+  listed : {m′ : List ℕ} {end : ℕ} → entry p i ≡ i → ((t : List ℕ) → Trail next i t → Appended m at t m′ end)
       → Gathering n p m₀ e₀ m′ (set e count end) end (count + 1) (i + 1)
-  turn {m′} {end} h A =
+  listed {m′} {end} h A =
       record {
         up-to = omega arith;
         part =
             subst (λ (ss : List (List ℕ)). Partial ss m₀ e₀ m′ (set e count end) end (count + 1))
             (sym (ap (classesTo n (entry p)) (add-one i) ∙ classes-one n (entry p) i h))
-            (partial-one (classOf n (entry p) i) (G .part) (A (classOf n (entry p) i) (trail-class F T i l h))
-            (omega (arith, classes-fit n (entry p) (F .fixed) i h)) (omega (arith, classes-count n (entry p) i)));
+            (partial-one (classOf n (entry p) i) (T .so-far .part) (A (classOf n (entry p) i) (trail-class (T .flat) (T .threads) i (T .inside) h))
+            (omega (arith, classes-fit n (entry p) (T .flat .fixed) i h)) (omega (arith, classes-count n (entry p) i)));
       }
 
   -- the end of the set is at most n
   end-low : {m′ : List ℕ} {end : ℕ} → entry p i ≡ i → ((t : List ℕ) → Trail next i t → Appended m at t m′ end) → end ≤ n
-  end-low h A = rw (A (classOf n (entry p) i) (trail-class F T i l h) .end) (fit h)
+  end-low h A = rw (A (classOf n (entry p) i) (trail-class (T .flat) (T .threads) i (T .inside) h) .end) (fit h)
 
   pass : (entry p i ≡ i → ⊥) → Gathering n p m₀ e₀ m e at count (i + 1)
   pass h =
@@ -96,7 +104,7 @@ module _ {n : ℕ} {p next m₀ e₀ m e : List ℕ} {at count i : ℕ} (F : Fla
         up-to = omega arith;
         part =
             subst (λ (ss : List (List ℕ)). Partial ss m₀ e₀ m e at count) (sym (ap (classesTo n (entry p)) (add-one i) ∙ classes-past n (entry p) i h))
-            (G .part);
+            (T .so-far .part);
       }
 
 done : {n : ℕ} {p m₀ e₀ m e : List ℕ} {at count i : ℕ} → Gathering n p m₀ e₀ m e at count i → n ≤ i → Gathered n p m₀ e₀ m e count
@@ -128,20 +136,37 @@ shared-slice-read-if1 c = omega arith
 cast-if1 : tie.Need-cast-if1 Inv-loop μ-loop
 cast-if1 c = omega (arith, c .shared-slice-known3 .given (c .before .before .loop .root))
 
+turn-at : (c : tie.In-loop Inv-loop μ-loop)
+    → let start = c .before .before .before .before .before .before .args in
+    let now = c .before .loop in
+    Turn (start .n) (start .parents .now) (start .next .now) (start .members .now) (start .ends .now) (now .members) (now .ends) (now .at) (now .count) (now .root)
+turn-at c =
+    let pre = c .before .before .before .before .before .before .pre in
+    record {
+      flat = pre .0;
+      threads = pre .1;
+      members-room = pre .2;
+      ends-room = pre .3;
+      so-far = c .before .loop .inv;
+      inside = c .loop-test .taken;
+    }
+
 gather-requires : tie.Need-gather-requires Inv-loop μ-loop
-gather-requires c κs = (threaded-rises (c .before .before .before .before .before .before .before .before .before .pre .0) (c .before .before .before .before .before .before .before .before .before .pre .1), c .before .before .before .loop-test .taken, fitting (c .before .before .before .before .before .before .before .before .before .pre .0) (c .before .before .before .before .before .before .before .before .before .pre .1) (c .before .before .before .before .before .before .before .before .before .pre .2) (c .before .before .before .before .before .before .before .before .before .pre .3) (c .before .before .before .before .loop .inv) (c .before .before .before .loop-test .taken) (c .before .if1 .taken))
+gather-requires c κs =
+    let turn = turn-at (c .before .before .before) in
+    (threaded-rises (turn .flat) (turn .threads), turn .inside, fitting turn (c .before .if1 .taken))
 
 cast-ends : tie.Need-cast-ends Inv-loop μ-loop
-cast-ends c = omega (arith, end-low (c .before .before .before .before .before .before .before .before .before .before .before .before .pre .0) (c .before .before .before .before .before .before .before .before .before .before .before .before .pre .1) (c .before .before .before .before .before .before .before .before .before .before .before .before .pre .2) (c .before .before .before .before .before .before .before .before .before .before .before .before .pre .3) (c .before .before .before .before .before .before .before .loop .inv) (c .before .before .before .before .before .before .loop-test .taken) (c .before .before .before .before .if1 .taken) (c .before .before .gather .ensures))
+cast-ends c = omega (arith, end-low (turn-at (c .before .before .before .before .before .before)) (c .before .before .before .before .if1 .taken) (c .before .before .gather .ensures))
 
 mul-ends : tie.Need-mul-ends Inv-loop μ-loop
-mul-ends c = omega (arith, counted (c .before .before .before .before .before .before .before .before .before .before .before .before .pre .0) (c .before .before .before .before .before .before .before .before .before .before .before .before .pre .1) (c .before .before .before .before .before .before .before .before .before .before .before .before .pre .2) (c .before .before .before .before .before .before .before .before .before .before .before .before .pre .3) (c .before .before .before .before .before .before .before .loop .inv) (c .before .before .before .before .before .before .loop-test .taken))
+mul-ends c = omega (arith, counted (turn-at (c .before .before .before .before .before .before)))
 
 slice-write-ends : tie.Need-slice-write-ends Inv-loop μ-loop
-slice-write-ends c = omega (arith, counted (c .before .before .before .before .before .before .before .before .before .before .before .before .pre .0) (c .before .before .before .before .before .before .before .before .before .before .before .before .pre .1) (c .before .before .before .before .before .before .before .before .before .before .before .before .pre .2) (c .before .before .before .before .before .before .before .before .before .before .before .before .pre .3) (c .before .before .before .before .before .before .before .loop .inv) (c .before .before .before .before .before .before .loop-test .taken))
+slice-write-ends c = omega (arith, counted (turn-at (c .before .before .before .before .before .before)))
 
 add-count : tie.Need-add-count Inv-loop μ-loop
-add-count c = omega (arith, counted (c .before .before .before .before .before .before .before .before .before .before .before .before .pre .0) (c .before .before .before .before .before .before .before .before .before .before .before .before .pre .1) (c .before .before .before .before .before .before .before .before .before .before .before .before .pre .2) (c .before .before .before .before .before .before .before .before .before .before .before .before .pre .3) (c .before .before .before .before .before .before .before .loop .inv) (c .before .before .before .before .before .before .loop-test .taken))
+add-count c = omega (arith, counted (turn-at (c .before .before .before .before .before .before)))
 
 add-root : tie.Need-add-root Inv-loop μ-loop
 add-root c = omega arith
@@ -151,8 +176,9 @@ loop-less c = omega arith
 
 loop-again : tie.Need-loop-again Inv-loop μ-loop
 loop-again c =
-    ⊎-elim (λ w. moved (turn (c .before .before .before .before .before .before .before .before .pre .0) (c .before .before .before .before .before .before .before .before .pre .1) (c .before .before .before .before .before .before .before .before .pre .2) (c .before .before .before .before .before .before .before .before .pre .3) (c .before .before .before .loop .inv) (c .before .before .loop-test .taken) (w .0 .taken) (w .2 .ensures)) (w .5) (w .6) (w .7) (w .8))
-    (λ w. moved (pass (c .before .before .before .before .before .before .before .before .pre .0) (c .before .before .before .before .before .before .before .before .pre .1) (c .before .before .before .before .before .before .before .before .pre .2) (c .before .before .before .before .before .before .before .before .pre .3) (c .before .before .before .loop .inv) (c .before .before .loop-test .taken) (w .0 .left)) (w .1) (w .2) (w .3) (w .4)) (c .if1 .came)
+    let turn = turn-at (c .before .before) in
+    ⊎-elim (λ w. moved (listed turn (w .0 .taken) (w .2 .ensures)) (w .5) (w .6) (w .7) (w .8))
+    (λ w. moved (pass turn (w .0 .left)) (w .1) (w .2) (w .3) (w .4)) (c .if1 .came)
 
 same-length : tie.Need-same-length Inv-loop μ-loop
 same-length c = c .before .loop .inv .part .members-long

@@ -1,5 +1,5 @@
 -- `sets::join` meets its contract: both roots are found, and the larger gets the smaller as its parent.
-use mathlib.Core.Path.{_≡_, sym, _∙_}
+use mathlib.Core.Path.{_≡_, _∙_}
 use mathlib.Core.List.{List}
 use Prim.Native.Nat.{ℕ, _≤_, _<_, _^_}
 use native.Mathlib.Nat.{le-of-lt}

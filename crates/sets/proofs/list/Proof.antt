@@ -1,5 +1,5 @@
 -- `sets::list` meets its contract: flattened parents have the same classes, and threads list them.
-use mathlib.Core.Path.{_≡_, refl, sym, ap, _∙_}
+use mathlib.Core.Path.{_≡_, ap, _∙_}
 use mathlib.Core.List.{List, map}
 use Prim.Native.Nat.{ℕ, _≤_}
 use lib.ListN.{length, replicate, length-replicate, getD-replicate}
@@ -61,7 +61,9 @@ same-length-4 c = search needs
 
 returns : tie.Need-returns
 returns c =
-    listing (c .before .before .before .before .before .before .before .before .before .before .before .before .before .before .before .before .before .before .before .before .before .before .before .before .before .before .pre .0) (c .before .before .before .before .before .before .before .before .before .before .before .before .before .before .before .before .before .before .before .before .flatten .ensures) (c .before .before .before .before .gather-all .ensures)
+    let gathered = c .before .before .before .before in
+    let flat = gathered .before .before .before .before .before .before .before .before .before .before .before .before .before .before .before .before in
+    listing (flat .before .before .before .before .before .before .pre .0) (flat .flatten .ensures) (gathered .gather-all .ensures)
 
 pub list-spec : {M : Type 1} → statement M
 list-spec =

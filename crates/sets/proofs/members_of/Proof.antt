@@ -1,5 +1,5 @@
 -- `sets::members_of` meets its contract: each test that fails gives the empty part, as in the definition.
-use mathlib.Core.Path.{_≡_, refl, sym}
+use mathlib.Core.Path.{_≡_, sym}
 use mathlib.Core.List.{List, []}
 use Prim.Native.Nat.{ℕ, _-_, _≤_, _<_}
 use native.Mathlib.Omega.{arith}
@@ -39,7 +39,9 @@ part-result-end : tie.Need-part-result-end
 part-result-end c = search needs
 
 returns : tie.Need-returns
-returns c = past-count (c .before .before .before .before .args .members .now) (c .before .before .before .before .args .ends .now) (c .before .before .before .before .args .count) (c .before .before .before .before .args .set) (c .before .if1 .taken)
+returns c =
+    let start = c .before .before .before .before .args in
+    past-count (start .members .now) (start .ends .now) (start .count) (start .set) (c .before .if1 .taken)
 
 sub-result-2 : tie.Need-sub-result-2
 sub-result-2 c = search needs
@@ -51,7 +53,9 @@ part-result-end-2 : tie.Need-part-result-end-2
 part-result-end-2 c = search needs
 
 returns-2 : tie.Need-returns-2
-returns-2 c = past-ends (c .before .before .before .before .before .args .members .now) (c .before .before .before .before .before .args .ends .now) (c .before .before .before .before .before .args .count) (c .before .before .before .before .before .args .set) (c .before .before .if1 .left) (c .before .if2 .taken)
+returns-2 c =
+    let start = c .before .before .before .before .before .args in
+    past-ends (start .members .now) (start .ends .now) (start .count) (start .set) (c .before .before .if1 .left) (c .before .if2 .taken)
 
 start-of-requires : tie.Need-start-of-requires
 start-of-requires c κs = search needs
@@ -75,7 +79,9 @@ part-result-end-3 : tie.Need-part-result-end-3
 part-result-end-3 c = search needs
 
 returns-3 : tie.Need-returns-3
-returns-3 c = start-past (c .before .before .before .before .before .before .before .before .args .members .now) (c .before .before .before .before .before .before .before .before .args .ends .now) (c .before .before .before .before .before .before .before .before .args .count) (c .before .before .before .before .before .before .before .before .args .set) (c .before .before .before .before .before .if1 .left) (c .before .before .before .before .if2 .left) (c .before .before .before .start-of .ensures) (c .before .if3 .taken)
+returns-3 c =
+    let start = c .before .before .before .before .before .before .before .before .args in
+    start-past (start .members .now) (start .ends .now) (start .count) (start .set) (c .before .before .before .before .before .if1 .left) (c .before .before .before .before .if2 .left) (c .before .before .before .start-of .ensures) (c .before .if3 .taken)
 
 sub-result-4 : tie.Need-sub-result-4
 sub-result-4 c = search needs
@@ -87,7 +93,9 @@ part-result-end-4 : tie.Need-part-result-end-4
 part-result-end-4 c = search needs
 
 returns-4 : tie.Need-returns-4
-returns-4 c = end-past (c .before .before .before .before .before .before .before .before .before .args .members .now) (c .before .before .before .before .before .before .before .before .before .args .ends .now) (c .before .before .before .before .before .before .before .before .before .args .count) (c .before .before .before .before .before .before .before .before .before .args .set) (c .before .before .before .before .before .before .if1 .left) (c .before .before .before .before .before .if2 .left) (c .before .before .before .before .start-of .ensures) (c .before .before .if3 .left) (c .before .if4 .taken)
+returns-4 c =
+    let start = c .before .before .before .before .before .before .before .before .before .args in
+    end-past (start .members .now) (start .ends .now) (start .count) (start .set) (c .before .before .before .before .before .before .if1 .left) (c .before .before .before .before .before .if2 .left) (c .before .before .before .before .start-of .ensures) (c .before .before .if3 .left) (c .before .if4 .taken)
 
 mul-result : tie.Need-mul-result
 mul-result c = search needs
@@ -99,7 +107,9 @@ part-result-end-5 : tie.Need-part-result-end-5
 part-result-end-5 c = search needs
 
 returns-5 : tie.Need-returns-5
-returns-5 c = part (c .before .before .before .before .before .before .before .before .before .args .members .now) (c .before .before .before .before .before .before .before .before .before .args .ends .now) (c .before .before .before .before .before .before .before .before .before .args .count) (c .before .before .before .before .before .before .before .before .before .args .set) (c .before .before .before .before .before .before .if1 .left) (c .before .before .before .before .before .if2 .left) (c .before .before .before .before .start-of .ensures) (c .before .before .if3 .left) (c .before .if4 .left)
+returns-5 c =
+    let start = c .before .before .before .before .before .before .before .before .before .args in
+    part (start .members .now) (start .ends .now) (start .count) (start .set) (c .before .before .before .before .before .before .if1 .left) (c .before .before .before .before .before .if2 .left) (c .before .before .before .before .start-of .ensures) (c .before .before .if3 .left) (c .before .if4 .left)
 
 pub members-of-spec : {M : Type 1} → statement M
 members-of-spec =
