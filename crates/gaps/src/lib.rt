@@ -55,6 +55,7 @@ fn join_all(values: &[u32], gap: u32, parents: &mut [u32])
 }
 
 // 0 where the lists have room and 1 where they have not, and the number of sets.
+#[repr(C)]
 pub struct Answer {
     pub number: u32,
     pub count: usize,

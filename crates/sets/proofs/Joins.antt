@@ -14,7 +14,7 @@ use Rattle.lists.proofs.Keep.{length-below, getD-below}
 use Rattle.lists.proofs.Written.{written-length, written-at}
 use Rattle.sets.specs.Closed.{Touching, Chain, here}
 use Rattle.sets.specs.Joins.{Joins}
-use Rattle.sets.specs.Parents.{Room, Parents, root, merged, Joined}
+use Rattle.sets.specs.Parents.{Room, Parents, root, SameRoots, merged, Joined}
 use Rattle.sets.proofs.Chains.{chain-append, chain-back, chain-step, chain-map}
 use Rattle.sets.proofs.Represents.{represents-exchange}
 use Rattle.sets.proofs.Roots.{root-stays, root-le, root-root}
@@ -78,6 +78,36 @@ merged-one x y =
     go s true e = refl
     go s false e = e
 
+-- joining some pairs serves for all that their chains join; so does a rule that is the same below n
+pub joins-exchange : {n : ℕ} {D : ℕ → Type 0} {R R′ : ℕ → ℕ → Type 0} {p : List ℕ} → Joins n D R p
+    → ((i j : ℕ) → D i → D j → R i j → Chain D R′ i j) → ((i j : ℕ) → D i → D j → R′ i j → Chain D R i j) → Joins n D R′ p
+joins-exchange J to from = record { parents = J .parents; inside = J .inside; roots = represents-exchange (J .roots) to from }
+
+-- a rule that is the same on the domain
+pub joins-same : {n : ℕ} {D : ℕ → Type 0} {R R′ : ℕ → ℕ → Type 0} {p : List ℕ} → Joins n D R p
+    → ((i j : ℕ) → D i → D j → R i j → R′ i j) → ((i j : ℕ) → D i → D j → R′ i j → R i j) → Joins n D R′ p
+joins-same J to from =
+    joins-exchange J (λ i j di dj r. chain-step di dj (inl (to i j di dj r))) (λ i j di dj r. chain-step di dj (inl (from i j di dj r)))
+
+-- parents with the same roots join the same: what `find` leaves
+pub joins-kept : {n : ℕ} {D : ℕ → Type 0} {R : ℕ → ℕ → Type 0} {p q : List ℕ} → Joins n D R p → SameRoots n p q → Joins n D R q
+joins-kept {D} {p = p} {q = q} J S =
+    record {
+      parents = S .parents;
+      inside = J .inside;
+      roots =
+          record {
+            stays = λ i d. rw (at i d) (J .roots .stays i d);
+            low = λ i d. root-le (S .parents) i (J .inside i d);
+            fixed = λ i d. root-root (S .parents) i (J .inside i d);
+            sound = λ i j di dj e. J .roots .sound i j di dj (sym (at i di) ∙ e ∙ at j dj);
+            complete = λ i j di dj r. at i di ∙ J .roots .complete i j di dj r ∙ sym (at j dj);
+          };
+    }
+  where
+    at : (i : ℕ) → D i → root q i ≡ root p i
+    at i d = S .roots i (J .inside i d)
+
 module _ {n : ℕ} {D : ℕ → Type 0} {R R′ : ℕ → ℕ → Type 0} {p : List ℕ} (J : Joins n D R p)
     (grows : (i j : ℕ) → D i → D j → R i j → R′ i j) where
   wider : {i j : ℕ} → Chain D R i j → Chain D R′ i j
@@ -125,34 +155,10 @@ module _ {n : ℕ} {D : ℕ → Type 0} {R R′ : ℕ → ℕ → Type 0} {p : L
       joined di dj (inr (inr w)) = chain-append (old di db (w .0)) (chain-append (chain-back (chain-step da db touch)) (old da dj (sym (w .1))))
 
   passed-over : {q : List ℕ} {a b : ℕ} → Joined n p a b false q → ((i j : ℕ) → D i → D j → R′ i j → R i j) → Joins n D R′ q
-  passed-over Q only =
-      record {
-        parents = Q .parents;
-        inside = J .inside;
-        roots =
-            record {
-              stays = λ i d. rw (Q .roots i (J .inside i d)) (J .roots .stays i d);
-              low = λ i d. root-le (Q .parents) i (J .inside i d);
-              fixed = λ i d. root-root (Q .parents) i (J .inside i d);
-              sound = λ i j di dj e. wider (J .roots .sound i j di dj (sym (Q .roots i (J .inside i di)) ∙ e ∙ Q .roots j (J .inside j dj)));
-              complete = λ i j di dj r.
-                  Q .roots i (J .inside i di) ∙ J .roots .complete i j di dj (only i j di dj r) ∙ sym (Q .roots j (J .inside j dj));
-            };
-      }
+  passed-over Q only = joins-same (joins-kept J (record { parents = Q .parents; roots = Q .roots; kept = Q .kept })) grows only
 
   -- one more pair: joined if it touches, else passed over
   pub joins-more : {q : List ℕ} {a b : ℕ} → D a → D b → (touch : Bool) → Joined n p a b touch q
       → ((i j : ℕ) → D i → D j → R′ i j → R i j ⊎ ((i ≡ a) × (j ≡ b) × (touch ≡ true))) → (touch ≡ true → Touching R′ a b) → Joins n D R′ q
   joins-more da db true Q only new = joined-one da db Q (λ i j di dj r. ⊎-elim inl (λ s. inr (s .0, s .1)) (only i j di dj r)) (new refl)
   joins-more da db false Q only new = passed-over Q (λ i j di dj r. ⊎-elim (λ s. s) (λ s. absurd (false≢true (s .2))) (only i j di dj r))
-
--- joining some pairs serves for all that their chains join; so does a rule that is the same below n
-pub joins-exchange : {n : ℕ} {D : ℕ → Type 0} {R R′ : ℕ → ℕ → Type 0} {p : List ℕ} → Joins n D R p
-    → ((i j : ℕ) → D i → D j → R i j → Chain D R′ i j) → ((i j : ℕ) → D i → D j → R′ i j → Chain D R i j) → Joins n D R′ p
-joins-exchange J to from = record { parents = J .parents; inside = J .inside; roots = represents-exchange (J .roots) to from }
-
--- a rule that is the same on the domain
-pub joins-same : {n : ℕ} {D : ℕ → Type 0} {R R′ : ℕ → ℕ → Type 0} {p : List ℕ} → Joins n D R p
-    → ((i j : ℕ) → D i → D j → R i j → R′ i j) → ((i j : ℕ) → D i → D j → R′ i j → R i j) → Joins n D R′ p
-joins-same J to from =
-    joins-exchange J (λ i j di dj r. chain-step di dj (inl (to i j di dj r))) (λ i j di dj r. chain-step di dj (inl (from i j di dj r)))

@@ -1,6 +1,6 @@
 -- What a caller has once its rule is joined and listed: the listing is that of the closed sets, and each number gives its set back.
 use mathlib.Core.Path.{_≡_, refl, sym, ap, ap₂, _∙_}
-use mathlib.Core.Bool.{Bool}
+use mathlib.Core.Bool.{Bool, true}
 use mathlib.Core.List.{List, [], _∷_, _++_, append-assoc}
 use Prim.Native.Nat.{ℕ, zero, suc, _+_, _-_, _≤_, _<_}
 use native.Mathlib.Nat.{not-suc-le-zero, le-of-suc-le-suc, lt-of-le-of-lt}
@@ -15,7 +15,7 @@ use Rattle.sets.specs.Closed.{Below, Listed}
 use Rattle.sets.specs.Listing.{closedSets, classes, endsFrom, startOf, membersOf, Listing}
 use Rattle.sets.specs.Joins.{Joins}
 use Rattle.sets.specs.Parents.{Parents, root}
-use Rattle.sets.proofs.Classes.{classes-listed}
+use Rattle.sets.proofs.Classes.{classesIn, classes-listed, classes-listed-in}
 use Rattle.sets.proofs.Grown.{Holds, classes-closedSets}
 use Rattle.sets.proofs.Sizes.{classes-all, classes-count, classes-total, length-ends}
 use Rattle.sets.proofs.Roots.{root-le, root-root}
@@ -29,6 +29,11 @@ members-inside members ends count k a b g h =
 -- a set is listed exactly when it is closed, and then once
 pub joins-listed : {n : ℕ} {R : ℕ → ℕ → Type 0} {p : List ℕ} → Joins n (Below n) R p → Listed (Below n) R (classes n (root p))
 joins-listed J = classes-listed (J .roots)
+
+-- the same over a domain that a test decides: what is outside it stands in no set
+pub joins-listed-in : {n : ℕ} {D : ℕ → Type 0} {R : ℕ → ℕ → Type 0} {p : List ℕ} (q : ℕ → Bool) → ((i : ℕ) → D i → q i ≡ true)
+    → ((i : ℕ) → i < n → q i ≡ true → D i) → Joins n D R p → Listed D R (classesIn n q (root p))
+joins-listed-in q test domain J = classes-listed-in q (λ i d. (J .inside i d, test i d)) domain (J .roots)
 
 -- the listing is the one that `closedSets` computes
 pub joins-closedSets : {n : ℕ} {p : List ℕ} (touch : ℕ → ℕ → Bool) → Joins n (Below n) (Holds touch) p → classes n (root p) ≡ closedSets n touch

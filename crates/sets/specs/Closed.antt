@@ -19,7 +19,7 @@ pub data Chain (S : ℕ → Type 0) (R : ℕ → ℕ → Type 0) : ℕ → ℕ �
   here : {i : ℕ} → S i → Chain S R i i
   next : {i j k : ℕ} → S i → Touching R i j → Chain S R j k → Chain S R i k
 
--- The smallest index of the closed set of i, of those that a chain joins to i.
+-- s is the smallest index of the closed set of i: of all that a chain joins to i.
 pub record Smallest (D : ℕ → Type 0) (R : ℕ → ℕ → Type 0) (i s : ℕ) : Type 0 where
   pub member : Chain D R i s
   pub least : (j : ℕ) → Chain D R i j → s ≤ j
