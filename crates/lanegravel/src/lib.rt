@@ -1,4 +1,5 @@
 // The exported calls. Each is thin: it has the contract of the function that it calls, and no
 // `requires`, so nothing has to be vetted before a call. include/lanegravel.h declares them for C.
 mod floats;
+mod grouping;
 mod settings;

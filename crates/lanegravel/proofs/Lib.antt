@@ -1,0 +1,2 @@
+-- Laws that the exported calls need beside the contracts they pass on.
+pub mod Part

@@ -1,0 +1,2 @@
+-- Laws of the rule that a list of pairs makes.
+pub mod Rule

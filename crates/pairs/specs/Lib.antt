@@ -1,0 +1,2 @@
+-- The closed sets that a list of pairs makes.
+pub mod Pairs
