@@ -6,6 +6,7 @@
 #ifndef LANEGRAVEL_H
 #define LANEGRAVEL_H
 
+#include <stdbool.h>
 #include <stddef.h>
 #include <stdint.h>
 
@@ -29,6 +30,50 @@ int64_t lanegravel_rounded_product(double a, double b);
 /* The whole number nearest to x, halves away from zero (IEEE 754-2019 roundToIntegralTiesToAway).
  * The sign of x stays, also on a zero; infinities and NaN stay. */
 double lanegravel_round(double x);
+
+/* The answer of a call that lists sets: 0 where it is accepted, else 1; and how many sets there are.
+ * A refused call writes nothing. */
+struct lanegravel_set_count {
+    uint32_t number;
+    size_t count;
+};
+
+/* The closed sets of the places of `values`: two places touch when their numbers differ by at most
+ * `gap`, and a closed set is joined by chains of touching places, with no outsider touching one.
+ * members: the places, ascending in each set, the sets by their smallest place; ends: the end of
+ * each set in members (a set begins where the one before it ends). Refused where one of the four
+ * lists has fewer entries than there are values, or there are 2^32 values or more. Places past the
+ * answers keep their content; parents and work hold free content after an accepted call. */
+struct lanegravel_set_count lanegravel_gap_sets(
+    const uint32_t *values, size_t count, uint32_t gap,
+    uint32_t *parents, size_t parents_count, uint32_t *members, size_t members_count,
+    uint32_t *ends, size_t ends_count, uint32_t *work, size_t work_count);
+
+/* The same for the indexes below n, two of which touch when they are one of the pairs (two numbers
+ * each; a number without its partner makes no pair). Refused also where a number is not below n. */
+struct lanegravel_set_count lanegravel_pair_sets(
+    size_t n, const uint32_t *pairs, size_t count,
+    uint32_t *parents, size_t parents_count, uint32_t *members, size_t members_count,
+    uint32_t *ends, size_t ends_count, uint32_t *work, size_t work_count);
+
+/* A part of a lent list. */
+struct lanegravel_part {
+    size_t start;
+    size_t count;
+};
+
+/* The members of one set of a listing of `count` sets, as a part of the member list. A set number
+ * at or past the count, bounds outside the lists, or a start past its end, give the empty part. */
+struct lanegravel_part lanegravel_members_of(
+    const uint32_t *members, size_t members_count, const uint32_t *ends, size_t ends_count,
+    size_t count, size_t set);
+
+/* The indexes of the keys by ascending key, equal keys by index, from the front of `out`; places
+ * past them keep their content, and work holds free content. False, and nothing written, where out
+ * or work has fewer entries than there are keys, or there are 2^32 keys or more. */
+bool lanegravel_sort_indexes(
+    const uint64_t *keys, size_t count, uint32_t *out, size_t out_count, uint32_t *work,
+    size_t work_count);
 
 /* The settings. A name that ends in _xh is in x-heights, one that ends in _in is in inches. */
 struct lanegravel_rulings_params {

@@ -5,6 +5,7 @@
 
 mod ffi;
 mod floats;
+mod grouping;
 mod params;
 mod random;
 mod replay;
@@ -24,7 +25,7 @@ struct Comparison {
     run: fn(&mut Random, u64) -> Tally,
 }
 
-const COMPARISONS: [Comparison; 6] = [
+const COMPARISONS: &[Comparison] = &[
     Comparison {
         name: "pairwise_sum",
         count: 1_000_000,
@@ -46,6 +47,26 @@ const COMPARISONS: [Comparison; 6] = [
         run: floats::round,
     },
     Comparison {
+        name: "gap_sets",
+        count: 200_000,
+        run: grouping::gap_sets,
+    },
+    Comparison {
+        name: "pair_sets",
+        count: 200_000,
+        run: grouping::pair_sets,
+    },
+    Comparison {
+        name: "members_of",
+        count: 500_000,
+        run: grouping::members_of,
+    },
+    Comparison {
+        name: "sort_indexes",
+        count: 200_000,
+        run: grouping::sort_indexes,
+    },
+    Comparison {
         name: "validate",
         count: 2_000_000,
         run: params::validate,
@@ -59,7 +80,7 @@ const COMPARISONS: [Comparison; 6] = [
 
 fn compare(seed: u64, count: Option<u64>) -> ExitCode {
     let mut agree = true;
-    for comparison in &COMPARISONS {
+    for comparison in COMPARISONS {
         let count = count.unwrap_or(comparison.count);
         let tally = (comparison.run)(&mut Random::new(seed), count);
         println!("{}: {tally}", comparison.name);
