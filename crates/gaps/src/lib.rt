@@ -5,7 +5,8 @@ ghost use lib.ListN.{length};
 ghost use Rattle.sets.specs.Closed.{Below};
 ghost use Rattle.sets.specs.Joins.{Joins, Seen};
 ghost use Rattle.sets.specs.Parents.{Room};
-ghost use Rattle.gaps.specs.Gaps.{near, roomFor, Touch, GapSets};
+ghost use Rattle.gaps.specs.Gaps.{near, Touch, GapSets};
+ghost use Rattle.lists.specs.Lists.{roomFor};
 
 // Do two numbers differ by at most the gap?
 fn near(a: u32, b: u32, gap: u32) -> bool
@@ -15,13 +16,6 @@ fn near(a: u32, b: u32, gap: u32) -> bool
         return b - a <= gap;
     }
     a - b <= gap
-}
-
-// Is there room for n entries in lists of these lengths?
-fn room(n: usize, parents: usize, members: usize, ends: usize, work: usize) -> bool
-    ensures { λ r. ⌜ r ≡ roomFor n parents members ends work ⌝ }
-{
-    (n < 4294967296) & (n <= parents) & (n <= members) & (n <= ends) & (n <= work)
 }
 
 // Joins place i with every later place that it touches.
@@ -77,7 +71,7 @@ pub fn gap_sets(
         (now (parents .exit)) (now (members .exit)) (now (ends .exit)) (now (work .exit)) (r .number) (r .count) ⌝ }
 {
     let n = values.len();
-    let fits = room(n, parents.len(), members.len(), ends.len(), work.len());
+    let fits = lists::room(n, parents.len(), members.len(), ends.len(), work.len());
     if fits {
         join_all(values, gap, parents);
         let count = sets::list(parents, n, members, ends, work);

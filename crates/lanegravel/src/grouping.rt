@@ -1,7 +1,8 @@
 // Closed sets and order (crates `gaps`, `pairs`, `sets` and `order`).
 ghost use mathlib.Core.Path.{_≡_};
 ghost use lib.ListN.{length, take, drop};
-ghost use Rattle.gaps.specs.Gaps.{roomFor, GapSets};
+ghost use Rattle.lists.specs.Lists.{roomFor};
+ghost use Rattle.gaps.specs.Gaps.{GapSets};
 ghost use Rattle.pairs.specs.Pairs.{PairSets};
 ghost use Rattle.order.specs.Order.{Sorts};
 ghost use Rattle.sets.specs.Listing.{membersOf};

@@ -2,4 +2,5 @@
 pub mod Written
 pub mod Keep
 pub mod Every
+pub mod Rooms
 pub mod Sizes

@@ -1,7 +1,8 @@
 -- Lists of indexes, and lent lists that are written from the front.
 use mathlib.Core.Bool.{Bool, true, false, cond, _&&_, _||_}
 use mathlib.Core.List.{List, [], _∷_, _++_, List·Memᴰ}
-use Prim.Native.Nat.{ℕ, zero, suc}
+use Prim.Native.Nat.{ℕ, zero, suc, _^_}
+use lib.Dec.{leb, ltb}
 use lib.ListN.{length, drop}
 
 -- The numbers below n, in order.
@@ -17,6 +18,10 @@ In s i = List·Memᴰ i s
 unfoldable pub everyBelow : ℕ → (ℕ → Bool) → Bool
 everyBelow zero q = true
 everyBelow (suc n) q = everyBelow n q && q n
+
+-- Each of four lists has room for n entries, and n fits 32 bits.
+abbrev pub roomFor : ℕ → ℕ → ℕ → ℕ → ℕ → Bool
+roomFor n a b c d = ltb n (2 ^ 32) && leb n a && leb n b && leb n c && leb n d
 
 module _ {A : Type 0} where
   -- The entries of a list that pass a test, in their order.

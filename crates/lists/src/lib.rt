@@ -2,7 +2,7 @@
 ghost use mathlib.Core.Path.{_≡_};
 ghost use Prim.Native.Nat.{_≤_};
 ghost use lib.ListN.{length, replicate};
-ghost use Rattle.lists.specs.Lists.{written};
+ghost use Rattle.lists.specs.Lists.{written, roomFor};
 
 // The first n places hold the value; the places past them keep their content.
 pub fn fill(list: &mut [u32], n: usize, value: u32)
@@ -14,4 +14,11 @@ pub fn fill(list: &mut [u32], n: usize, value: u32)
         list[i] = value;
         i += 1;
     }
+}
+
+// Is there room for n entries in lists of these lengths?
+pub fn room(n: usize, a: usize, b: usize, c: usize, d: usize) -> bool
+    ensures { λ r. ⌜ r ≡ roomFor n a b c d ⌝ }
+{
+    (n < 4294967296) & (n <= a) & (n <= b) & (n <= c) & (n <= d)
 }

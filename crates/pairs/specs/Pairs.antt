@@ -1,13 +1,13 @@
 -- Pairs of indexes, two numbers each, and the closed sets that they make.
 use mathlib.Core.Path.{_≡_}
-use mathlib.Core.Bool.{Bool, true, false, cond, _&&_}
+use mathlib.Core.Bool.{Bool, true, _&&_}
 use mathlib.Core.List.{List}
-use Prim.Native.Nat.{ℕ, _+_, _*_, _/_, _^_, _<_}
-use lib.Dec.{leb, ltb, eqb}
+use Prim.Native.Nat.{ℕ, _+_, _*_, _/_, _<_}
+use lib.Dec.{ltb, eqb}
 use lib.ListN.{length, getD}
-use Rattle.lists.specs.Lists.{below, any, everyBelow, concat, written}
+use Rattle.lists.specs.Lists.{below, any, everyBelow, roomFor}
 use Rattle.sets.specs.Closed.{Below, Listed}
-use Rattle.sets.specs.Listing.{closedSets, endsFrom}
+use Rattle.sets.specs.Listing.{closedSets, Answered}
 
 -- i and j are one of the first m pairs.
 abbrev pub paired : List ℕ → ℕ → ℕ → ℕ → Bool
@@ -24,10 +24,6 @@ indexesBelow n pairs = everyBelow (length pairs) (λ i. ltb (getD pairs i 0) n)
 abbrev pub IndexesBelow : ℕ → List ℕ → Type 0
 IndexesBelow n pairs = (i : ℕ) → i < length pairs → getD pairs i 0 < n
 
--- Each of four lists has room for n entries, and n fits 32 bits.
-abbrev pub roomFor : ℕ → ℕ → ℕ → ℕ → ℕ → Bool
-roomFor n a b c d = ltb n (2 ^ 32) && leb n a && leb n b && leb n c && leb n d
-
 -- The call is accepted: there is room, and every index is below n.
 abbrev pub accepts : ℕ → List ℕ → List ℕ → List ℕ → List ℕ → List ℕ → Bool
 accepts n pairs p m e w = roomFor n (length p) (length m) (length e) (length w) && indexesBelow n pairs
@@ -38,11 +34,6 @@ pairSets n pairs = closedSets n (paired pairs (length pairs / 2))
 
 -- Accepted, the closed sets are listed; refused, 1 is returned and nothing is written.
 pub record PairSets (n : ℕ) (pairs p m e w p′ m′ e′ w′ : List ℕ) (r k : ℕ) : Type 0 where
-  pub number : r ≡ cond (accepts n pairs p m e w) 0 1
-  pub count : k ≡ cond (accepts n pairs p m e w) (length (pairSets n pairs)) 0
-  pub members : m′ ≡ cond (accepts n pairs p m e w) (written (concat (pairSets n pairs)) m) m
-  pub ends : e′ ≡ cond (accepts n pairs p m e w) (written (endsFrom 0 (pairSets n pairs)) e) e
-  pub parents-kept : accepts n pairs p m e w ≡ false → p′ ≡ p
-  pub work-kept : accepts n pairs p m e w ≡ false → w′ ≡ w
+  pub answered : Answered (accepts n pairs p m e w) (pairSets n pairs) p m e w p′ m′ e′ w′ r k
   -- each set that is listed is closed, and each closed set is listed once
   pub listed : Listed (Below n) (Paired pairs (length pairs / 2)) (pairSets n pairs)

@@ -6,7 +6,7 @@ ghost use lib.ListN.{length};
 ghost use Rattle.sets.specs.Closed.{Below};
 ghost use Rattle.sets.specs.Joins.{Joins};
 ghost use Rattle.sets.specs.Parents.{Room};
-ghost use Rattle.pairs.specs.Pairs.{indexesBelow, IndexesBelow, roomFor, Paired, PairSets};
+ghost use Rattle.pairs.specs.Pairs.{indexesBelow, IndexesBelow, Paired, PairSets};
 
 // Is every number of the list an index below n?
 fn indexes_below(pairs: &[u32], n: usize) -> bool
@@ -20,13 +20,6 @@ fn indexes_below(pairs: &[u32], n: usize) -> bool
         i += 1;
     }
     true
-}
-
-// Is there room for n entries in lists of these lengths?
-fn room(n: usize, parents: usize, members: usize, ends: usize, work: usize) -> bool
-    ensures { λ r. ⌜ r ≡ roomFor n parents members ends work ⌝ }
-{
-    (n < 4294967296) & (n <= parents) & (n <= members) & (n <= ends) & (n <= work)
 }
 
 // Joins each pair.
@@ -68,7 +61,7 @@ pub fn pair_sets(
         (now (parents .entry)) (now (members .entry)) (now (ends .entry)) (now (work .entry))
         (now (parents .exit)) (now (members .exit)) (now (ends .exit)) (now (work .exit)) (r .number) (r .count) ⌝ }
 {
-    let fits = room(n, parents.len(), members.len(), ends.len(), work.len())
+    let fits = lists::room(n, parents.len(), members.len(), ends.len(), work.len())
         & indexes_below(pairs, n);
     if fits {
         join_pairs(pairs, n, parents);

@@ -12,3 +12,4 @@ pub mod Trails
 pub mod Sizes
 pub mod Labels
 pub mod Listings
+pub mod Answers

@@ -1,6 +1,6 @@
 -- Listings: the closed sets in a definition that computes, and how a listing stands in lent lists.
 use mathlib.Core.Path.{_≡_}
-use mathlib.Core.Bool.{Bool, cond, _&&_, _||_}
+use mathlib.Core.Bool.{Bool, false, cond, _&&_, _||_}
 use mathlib.Core.List.{List, [], _∷_, map}
 use Prim.Native.Nat.{ℕ, zero, suc, _+_, _-_}
 use lib.Dec.{eqb, leb, ltb}
@@ -46,6 +46,15 @@ pub record Listing (n : ℕ) (p m e p′ m′ e′ : List ℕ) (r : ℕ) : Type 
   pub members : m′ ≡ written (concat (classes n (root p))) m
   pub ends : e′ ≡ written (endsFrom 0 (classes n (root p))) e
   pub labels : p′ ≡ written (map (root p) (below n)) p
+
+-- What a call that lists sets leaves: accepted, 0, the sets strung together, their ends and their count; refused, 1, and every list as it was.
+pub record Answered (fits : Bool) (ss : List (List ℕ)) (p m e w p′ m′ e′ w′ : List ℕ) (r k : ℕ) : Type 0 where
+  pub number : r ≡ cond fits 0 1
+  pub count : k ≡ cond fits (length ss) 0
+  pub members : m′ ≡ cond fits (written (concat ss) m) m
+  pub ends : e′ ≡ cond fits (written (endsFrom 0 ss) e) e
+  pub parents-kept : fits ≡ false → p′ ≡ p
+  pub work-kept : fits ≡ false → w′ ≡ w
 
 -- Set k begins where the one before it ends.
 abbrev pub startOf : List ℕ → ℕ → ℕ
