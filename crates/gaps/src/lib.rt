@@ -25,9 +25,10 @@ fn join_row(values: &[u32], gap: u32, parents: &mut [u32], i: usize)
         ⌜ Joins (length (now (values .entry))) (Below (length (now (values .entry)))) (Seen (Touch (now (values .entry)) gap) i (length (now (values .entry)))) (now (parents .exit)) ⌝ }
 {
     let n = values.len();
+    let value = values[i];
     let mut j = i + 1;
     while j < n {
-        let touch = near(values[i], values[j], gap);
+        let touch = near(value, values[j], gap);
         sets::join_if(parents, n, i, j, touch);
         j += 1;
     }

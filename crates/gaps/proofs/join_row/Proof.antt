@@ -38,16 +38,22 @@ turn {values} {gap} {i = i} {j = j} t W l long e J =
     }
 
 abbrev Inv-loop : tie.InvT-loop
-Inv-loop values gap parents₀ i n j₀ parents j = Row values gap parents₀ i n parents j
+Inv-loop values gap parents₀ i n value j₀ parents j = Row values gap parents₀ i n parents j
 
 abbrev μ-loop : tie.MeasureT-loop
-μ-loop values gap parents₀ i n j₀ parents j = n - j
+μ-loop values gap parents₀ i n value j₀ parents j = n - j
+
+mul-value : tie.Need-mul-value Inv-loop μ-loop
+mul-value c = omega arith
+
+shared-slice-read-value : tie.Need-shared-slice-read-value Inv-loop μ-loop
+shared-slice-read-value c = omega arith
 
 add-j : tie.Need-add-j Inv-loop μ-loop
 add-j c = omega arith
 
 loop-holds : tie.Need-loop-holds Inv-loop μ-loop
-loop-holds c = record { later = omega arith; up-to = omega arith; long = refl; seen = c .before .before .pre .1 }
+loop-holds c = record { later = omega arith; up-to = omega arith; long = refl; seen = c .before .before .before .pre .1 }
 
 mul-near : tie.Need-mul-near Inv-loop μ-loop
 mul-near c = omega arith
@@ -55,17 +61,14 @@ mul-near c = omega arith
 shared-slice-read-near : tie.Need-shared-slice-read-near Inv-loop μ-loop
 shared-slice-read-near c = omega arith
 
-mul-near-2 : tie.Need-mul-near-2 Inv-loop μ-loop
-mul-near-2 c = omega arith
-
-shared-slice-read-near-2 : tie.Need-shared-slice-read-near-2 Inv-loop μ-loop
-shared-slice-read-near-2 c = omega arith
-
 near-requires : tie.Need-near-requires Inv-loop μ-loop
 near-requires c κs = search needs
 
 join-if-requires : tie.Need-join-if-requires Inv-loop μ-loop
-join-if-requires c κs = (c .before .before .before .before .before .loop .inv .seen .parents, c .before .before .before .before .before .before .before .before .pre .0, c .before .before .before .before .loop-test .taken)
+join-if-requires c κs =
+    let turn-start = c .before .before .before in
+    let start = turn-start .before .before .before .before .before in
+    (turn-start .before .loop .inv .seen .parents, start .pre .0, turn-start .loop-test .taken)
 
 add-j-2 : tie.Need-add-j-2 Inv-loop μ-loop
 add-j-2 c = omega arith
@@ -77,7 +80,7 @@ loop-again : tie.Need-loop-again Inv-loop μ-loop
 loop-again c =
     let joined = c .before .before in
     let tried = joined .before .before in
-    let turn-start = tried .before .before .before in
+    let turn-start = tried .before .before in
     turn (tried .near .result) (turn-start .before .loop .inv) (turn-start .loop-test .taken) (joined .join-if .kept .0) (tried .near .ensures)
     (joined .join-if .ensures)
 
@@ -86,7 +89,7 @@ same-length c = c .before .loop .inv .long
 
 returns : tie.Need-returns Inv-loop μ-loop
 returns c =
-    let end : c .before .loop .j ≡ length (c .before .before .before .before .args .values .now) = omega arith in
+    let end : c .before .loop .j ≡ length (c .before .before .before .before .before .args .values .now) = omega arith in
     rw end at (c .before .loop .inv .seen)
 
 pub join-row-spec : {M : Type 1} → statement M
@@ -95,12 +98,12 @@ join-row-spec =
     (tie.spec
     Inv-loop
     μ-loop
+    mul-value
+    shared-slice-read-value
     add-j
     loop-holds
     mul-near
     shared-slice-read-near
-    mul-near-2
-    shared-slice-read-near-2
     near-requires
     join-if-requires
     add-j-2
