@@ -1,0 +1,162 @@
+-- What a "yes" to each question means as plain facts, and that the facts give the "yes".
+-- Assumes nothing.
+use mathlib.Core.Path.{_≡_, refl, sym}
+use mathlib.Core.Bool.{true, false, _&&_, true≢false}
+use mathlib.Core.List.{List}
+use Prim.Native.Nat.{ℕ, _-_, _*_, _/_, _%_, _≤_, _<_}
+use native.Mathlib.Omega.{arith}
+use lib.Dec.{leb, ltb, eqb}
+use lib.IntN.{ℤ, pos, negsuc, natAbs}
+use lib.ListN.{length, getD}
+use lib.Signed.{nonNeg}
+use borrow.Author.Tests.{leb-true, ltb-true, eqb-true, le-leb, lt-ltb, eq-eqb}
+use Rattle.layout.specs.declared.sides.Sides.{Sides}
+use Rattle.layout.specs.declared.rect.Rect.{Rect}
+use Rattle.layout.specs.Sides.{sideFits, sidesFit, rasterFits}
+use Rattle.layout.specs.Tables.{entry, entryFits, entriesFit, tablesLong, tablesFit, Table, Sheared}
+use Rattle.layout.specs.Rects.{rectFits, rectAt, rectsCounted, rectsFit}
+use Rattle.layout.proofs.Every.{and-true, and-parts, every-at, every-of}
+use Rattle.layout.proofs.Entries.{whole-not-below}
+
+-- ---- question 1
+
+pub record SidesAre (s : Sides) : Type 0 where
+  pub pw-some : 1 ≤ s .pw
+  pub ph-some : 1 ≤ s .ph
+  pub w-some : 1 ≤ s .w
+  pub h-some : 1 ≤ s .h
+  pub w-most : s .w ≤ 8192
+  pub h-most : s .h ≤ 8192
+  pub page-wide : s .pw ≤ s .w
+  pub page-high : s .ph ≤ s .h
+
+side-yes : (n : ℕ) → sideFits n ≡ true → (1 ≤ n) × (n ≤ 8192)
+side-yes n h = let p = and-parts (leb 1 n) (leb n 8192) h in (leb-true 1 n (p .0), leb-true n 8192 (p .1))
+
+side-of : (n : ℕ) → 1 ≤ n → n ≤ 8192 → sideFits n ≡ true
+side-of n p q = and-true (le-leb 1 n p) (le-leb n 8192 q)
+
+pub sides-yes : (s : Sides) → sidesFit s ≡ true → SidesAre s
+unfolding sidesFit
+sides-yes s h =
+    let halves = and-parts _ _ h in
+    let all = and-parts _ _ (halves .0) in
+    let page = and-parts (sideFits (s .pw)) (sideFits (s .ph)) (all .0) in
+    let levelled = and-parts (sideFits (s .w)) (sideFits (s .h)) (all .1) in
+    let order = and-parts (leb (s .pw) (s .w)) (leb (s .ph) (s .h)) (halves .1) in
+    record {
+      pw-some = side-yes (s .pw) (page .0) .0;
+      ph-some = side-yes (s .ph) (page .1) .0;
+      w-some = side-yes (s .w) (levelled .0) .0;
+      h-some = side-yes (s .h) (levelled .1) .0;
+      w-most = side-yes (s .w) (levelled .0) .1;
+      h-most = side-yes (s .h) (levelled .1) .1;
+      page-wide = leb-true (s .pw) (s .w) (order .0);
+      page-high = leb-true (s .ph) (s .h) (order .1);
+    }
+
+pub sides-of : (s : Sides) → SidesAre s → sidesFit s ≡ true
+unfolding sidesFit
+sides-of s a =
+    and-true
+    (and-true
+    (and-true (side-of (s .pw) (a .pw-some) (omega (arith, a .page-wide, a .w-most))) (side-of (s .ph) (a .ph-some) (omega (arith, a .page-high, a .h-most))))
+    (and-true (side-of (s .w) (a .w-some) (a .w-most)) (side-of (s .h) (a .h-some) (a .h-most))))
+    (and-true (le-leb (s .pw) (s .w) (a .page-wide)) (le-leb (s .ph) (s .h) (a .page-high)))
+
+-- ---- the lengths of rasters
+
+pub raster-yes : (w h n : ℕ) → rasterFits w h n ≡ true → n ≡ w * h
+unfolding rasterFits
+raster-yes w h n t = eqb-true n (w * h) t
+
+pub raster-of : (w h n : ℕ) → n ≡ w * h → rasterFits w h n ≡ true
+unfolding rasterFits
+raster-of w h n e = eq-eqb n (w * h) e
+
+-- ---- questions 3 and 4 of the tables
+
+whole-of : (z : ℤ) → nonNeg z ≡ true → z ≡ pos (natAbs z)
+whole-of (pos n) t = refl
+whole-of (negsuc n) t = absurd (true≢false (sym t))
+
+module _ (n limit : ℕ) (table : List ℤ) where
+  pub table-yes : length table ≡ n → entriesFit limit table ≡ true → Table n limit table
+  unfolding entriesFit
+  table-yes l h = record { long = l; whole = λ i m. whole-of (getD table i (pos 0)) (at i m .0); most = λ i m. leb-true (entry table i) limit (at i (omega arith) .1) }
+    where
+      at : (i : ℕ) → i < length table → (nonNeg (getD table i (pos 0)) ≡ true) × (leb (entry table i) limit ≡ true)
+      at i m = and-parts (nonNeg (getD table i (pos 0))) (leb (entry table i) limit) (every-at (length table) (entryFits limit table) h i m)
+
+  pub table-of : Table n limit table → entriesFit limit table ≡ true
+  unfolding entriesFit
+  table-of t = every-of (length table) (entryFits limit table) (λ i m. and-true (whole-not-below (getD table i (pos 0)) (entry table i) (t .whole i m)) (le-leb (entry table i) limit (t .most i (omega (arith, t .long)))))
+
+module _ (sides : Sides) (shear shear-x : List ℤ) where
+  pub long-yes : tablesLong sides shear shear-x ≡ true → (length shear ≡ sides .pw) × (length shear-x ≡ sides .h)
+  long-yes h =
+      let p = and-parts (eqb (length shear) (sides .pw)) (eqb (length shear-x) (sides .h)) h in
+      (eqb-true (length shear) (sides .pw) (p .0), eqb-true (length shear-x) (sides .h) (p .1))
+
+  pub long-of : length shear ≡ sides .pw → length shear-x ≡ sides .h → tablesLong sides shear shear-x ≡ true
+  long-of p q = and-true (eq-eqb (length shear) (sides .pw) p) (eq-eqb (length shear-x) (sides .h) q)
+
+  -- questions 1, 3 and 4 together
+  pub sheared-yes : sidesFit sides ≡ true → tablesLong sides shear shear-x ≡ true → tablesFit sides shear shear-x ≡ true → Sheared sides shear shear-x
+  sheared-yes s l f =
+      let a = sides-yes sides s in
+      let long = long-yes l in
+      let fit = and-parts (entriesFit (sides .h - sides .ph) shear) (entriesFit (sides .w - sides .pw) shear-x) f in
+      record {
+        page-wide = a .page-wide;
+        page-high = a .page-high;
+        wide = a .w-most;
+        high = a .h-most;
+        columns = table-yes (sides .pw) (sides .h - sides .ph) shear (long .0) (fit .0);
+        rows = table-yes (sides .h) (sides .w - sides .pw) shear-x (long .1) (fit .1);
+      }
+
+  pub sheared-of : Sheared sides shear shear-x → (tablesLong sides shear shear-x ≡ true) × (tablesFit sides shear shear-x ≡ true)
+  sheared-of s = (
+    long-of (s .columns .long) (s .rows .long),
+    and-true (table-of (sides .pw) (sides .h - sides .ph) shear (s .columns)) (table-of (sides .h) (sides .w - sides .pw) shear-x (s .rows)),
+  )
+
+-- ---- questions 5 and 6
+
+pub counted-yes : (n : ℕ) (xs : List ℕ) → rectsCounted n xs ≡ true → (length xs ≤ 4 * n) × (length xs % 4 ≡ 0)
+counted-yes n xs h =
+    let p = and-parts (leb (length xs) (4 * n)) (eqb (length xs % 4) 0) h in
+    (leb-true (length xs) (4 * n) (p .0), eqb-true (length xs % 4) 0 (p .1))
+
+pub counted-of : (n : ℕ) (xs : List ℕ) → length xs ≤ 4 * n → length xs % 4 ≡ 0 → rectsCounted n xs ≡ true
+counted-of n xs p q = and-true (le-leb (length xs) (4 * n) p) (eq-eqb (length xs % 4) 0 q)
+
+-- a rectangle that is ordered and inside
+pub record RectIs (w h : ℕ) (r : Rect) : Type 0 where
+  pub across : r .x0 ≤ r .x1
+  pub down : r .y0 ≤ r .y1
+  pub column : r .x1 < w
+  pub row : r .y1 < h
+
+module _ (w h : ℕ) where
+  pub rect-yes : (r : Rect) → rectFits w h r ≡ true → RectIs w h r
+  rect-yes r t =
+      let p = and-parts (leb (r .x0) (r .x1) && leb (r .y0) (r .y1)) (ltb (r .x1) w && ltb (r .y1) h) t in
+      let o = and-parts (leb (r .x0) (r .x1)) (leb (r .y0) (r .y1)) (p .0) in
+      let i = and-parts (ltb (r .x1) w) (ltb (r .y1) h) (p .1) in
+      record { across = leb-true (r .x0) (r .x1) (o .0); down = leb-true (r .y0) (r .y1) (o .1); column = ltb-true (r .x1) w (i .0); row = ltb-true (r .y1) h (i .1) }
+
+  pub rect-of : (r : Rect) → RectIs w h r → rectFits w h r ≡ true
+  rect-of r t =
+      and-true
+      (and-true (le-leb (r .x0) (r .x1) (t .across)) (le-leb (r .y0) (r .y1) (t .down)))
+      (and-true (lt-ltb (r .x1) w (t .column)) (lt-ltb (r .y1) h (t .row)))
+
+  pub rects-yes : (xs : List ℕ) → rectsFit w h xs ≡ true → (i : ℕ) → i < length xs / 4 → RectIs w h (rectAt xs i)
+  unfolding rectsFit
+  rects-yes xs t i l = rect-yes (rectAt xs i) (every-at (length xs / 4) (λ i. rectFits w h (rectAt xs i)) t i l)
+
+  pub rects-of : (xs : List ℕ) → ((i : ℕ) → i < length xs / 4 → RectIs w h (rectAt xs i)) → rectsFit w h xs ≡ true
+  unfolding rectsFit
+  rects-of xs f = every-of (length xs / 4) (λ i. rectFits w h (rectAt xs i)) (λ i l. rect-of (rectAt xs i) (f i l))

@@ -1,0 +1,42 @@
+-- `layout::raster::copy` meets its contract: every place below i holds the byte of `from`.
+-- Assumes nothing.
+use mathlib.Core.Path.{refl, sym, _∙_}
+use Prim.Native.Nat.{_-_}
+use native.Mathlib.Omega.{arith}
+use lib.ListN.{length}
+use Rattle.layout.proofs.raster.copy.Statement.{statement}
+use Rattle.layout.proofs.raster.copy.Tie as tie
+use Rattle.layout.proofs.Agree.{Agree, agree-none, agree-more, agree-all}
+
+abbrev Inv-loop : tie.InvT-loop
+Inv-loop to₀ from i₀ to i = Agree i to from
+
+abbrev μ-loop : tie.MeasureT-loop
+μ-loop to₀ from i₀ to i = length from - i
+
+loop-holds : tie.Need-loop-holds Inv-loop μ-loop
+loop-holds c = agree-none _ _ (c .pre)
+
+shared-slice-read-to : tie.Need-shared-slice-read-to Inv-loop μ-loop
+shared-slice-read-to c = omega (arith, c .before .before .loop .inv .long)
+
+slice-write-to : tie.Need-slice-write-to Inv-loop μ-loop
+slice-write-to c = omega arith
+
+add-i : tie.Need-add-i Inv-loop μ-loop
+add-i c = omega (arith, c .before .before .loop .inv .long)
+
+loop-less : tie.Need-loop-less Inv-loop μ-loop
+loop-less c = omega (arith, c .before .before .loop .inv .long)
+
+loop-again : tie.Need-loop-again Inv-loop μ-loop
+loop-again c = agree-more _ (c .before .before .loop .inv) (c .before .loop-test .taken) refl
+
+same-length : tie.Need-same-length Inv-loop μ-loop
+same-length c = c .before .loop .inv .long ∙ sym (c .before .before .pre)
+
+returns : tie.Need-returns Inv-loop μ-loop
+returns c = agree-all (c .before .loop .inv) (c .loop-test .left)
+
+pub copy-spec : {M : Type 1} → statement M
+copy-spec = tie.close (tie.spec Inv-loop μ-loop loop-holds shared-slice-read-to slice-write-to add-i loop-less loop-again same-length returns)

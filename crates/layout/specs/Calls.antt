@@ -1,0 +1,77 @@
+-- What each call answers: the questions that it puts, in document 01's order, and its answer where none is missed.
+use Prim.Native.Nat.{ℕ}
+use mathlib.Core.Path.{_≡_}
+use mathlib.Core.Bool.{_&&_, cond}
+use mathlib.Core.List.{List, [], _∷_}
+use lib.Dec.{eqb}
+use lib.IntN.{ℤ}
+use lib.ListN.{length}
+use Rattle.questions.specs.Questions.{Question, firstMissed}
+use Rattle.layout.specs.declared.sides.Sides.{Sides}
+use Rattle.layout.specs.declared.rect.Rect.{Rect}
+use Rattle.layout.specs.declared.page.Levelled.{Levelled}
+use Rattle.layout.specs.declared.calls.Mapped.{Mapped}
+use Rattle.layout.specs.declared.calls.Mapped.the-variants.{Place, Refused}
+use Rattle.layout.specs.declared.calls.MappedRect.{MappedRect}
+use Rattle.layout.specs.declared.calls.MappedRect.the-variants.{Area, RefusedArea}
+use Rattle.layout.specs.Sides.{sidesFit, rasterFits}
+use Rattle.layout.specs.Tables.{tablesLong, tablesFit}
+use Rattle.layout.specs.Rects.{rectFits}
+use Rattle.layout.specs.Level.{levelled}
+use Rattle.layout.specs.ToPage.{toPage, rectToPage}
+
+-- `level_gray` puts 1, 3, 4 and 14; room is the length of the lent raster.
+abbrev pub levelQuestions : Sides → List ℕ → List ℤ → List ℤ → ℕ → List Question
+levelQuestions sides gray shear shear-x room =
+    (1, sidesFit sides)
+    ∷ (3, rasterFits (sides .pw) (sides .ph) (length gray) && tablesLong sides shear shear-x)
+    ∷ (4, tablesFit sides shear shear-x)
+    ∷ (14, rasterFits (sides .w) (sides .h) room)
+    ∷ []
+
+-- `level_gray` returns the number of the first missed question; the raster is the levelling where that is 0, and else as it was.
+pub record LevelGray (sides : Sides) (gray : List ℕ) (shear shear-x : List ℤ) (out out′ : List ℕ) (number : ℕ) : Type 0 where
+  pub is-number : number ≡ firstMissed (levelQuestions sides gray shear shear-x (length out))
+  pub raster : out′ ≡ cond (eqb number 0) (levelled sides gray shear shear-x) out
+
+-- `to_page` and `rect_to_page` put 1, 3, 4 and 6.
+abbrev pub mapQuestions : Sides → List ℤ → List ℤ → Rect → List Question
+mapQuestions sides shear shear-x r =
+    (1, sidesFit sides)
+    ∷ (3, tablesLong sides shear shear-x)
+    ∷ (4, tablesFit sides shear shear-x)
+    ∷ (6, rectFits (sides .w) (sides .h) r)
+    ∷ []
+
+-- A single place counts as a rectangle of one pixel.
+abbrev pub onePixel : Levelled → Rect
+onePixel p = record { x0 = p .0; y0 = p .1; x1 = p .0; y1 = p .1 }
+
+-- The number of each case: 0 for a place, else the missed question's.
+abbrev pub mappedNumber : Mapped → ℕ
+mappedNumber (Place p) = 0
+mappedNumber (Refused n) = n
+
+-- The values of each case: column and row, or none.
+abbrev pub mappedValues : Mapped → List ℤ
+mappedValues (Place p) = p .0 ∷ p .1 ∷ []
+mappedValues (Refused n) = []
+
+abbrev pub areaNumber : MappedRect → ℕ
+areaNumber (Area r) = 0
+areaNumber (RefusedArea n) = n
+
+-- The values of each case: x0, y0, x1, y1, or none.
+abbrev pub areaValues : MappedRect → List ℕ
+areaValues (Area r) = r .x0 ∷ r .y0 ∷ r .x1 ∷ r .y1 ∷ []
+areaValues (RefusedArea n) = []
+
+-- `to_page` answers with the number of the first missed question, and with the page place where that is 0.
+pub record ToPage (sides : Sides) (shear shear-x : List ℤ) (p : Levelled) (answer : Mapped) : Type 0 where
+  pub is-number : mappedNumber answer ≡ firstMissed (mapQuestions sides shear shear-x (onePixel p))
+  pub values : let q = toPage sides shear shear-x p in mappedValues answer ≡ cond (eqb (mappedNumber answer) 0) (q .0 ∷ q .1 ∷ []) []
+
+-- `rect_to_page` answers with the number of the first missed question, and with the page rectangle where that is 0.
+pub record RectToPage (sides : Sides) (shear shear-x : List ℤ) (r : Rect) (answer : MappedRect) : Type 0 where
+  pub is-number : areaNumber answer ≡ firstMissed (mapQuestions sides shear shear-x r)
+  pub values : let q = rectToPage sides shear shear-x r in areaValues answer ≡ cond (eqb (areaNumber answer) 0) (q .x0 ∷ q .y0 ∷ q .x1 ∷ q .y1 ∷ []) []

@@ -1,0 +1,9 @@
+-- What a reader must believe of `layout`: the questions about sides, tables and rectangles, levelling, and the way back to the page.
+pub mod Raster
+pub mod Sides
+pub mod Tables
+pub mod Rects
+pub mod Level
+pub mod Steps
+pub mod ToPage
+pub mod Calls

@@ -1,0 +1,20 @@
+-- Rasters as lists, row by row, and what holds of every index.
+use Prim.Native.Nat.{ℕ, zero, suc}
+use mathlib.Core.Bool.{Bool, true, _&&_}
+use mathlib.Core.List.{List, [], _∷_, _++_}
+
+-- The test is passed by every index below n.
+unfoldable pub every : ℕ → (ℕ → Bool) → Bool
+every zero p = true
+every (suc n) p = every n p && p n
+
+-- One row of w places: f x at column x.
+unfoldable pub rowOf : ℕ → (ℕ → ℕ) → List ℕ
+rowOf zero f = []
+rowOf (suc w) f = rowOf w f ++ (f w ∷ [])
+
+-- A raster of w columns and h rows, row by row: f x y at place (x, y).
+unfoldable pub raster : ℕ → ℕ → (ℕ → ℕ → ℕ) → List ℕ
+unfolding rowOf
+raster w zero f = []
+raster w (suc h) f = raster w h f ++ rowOf w (λ x. f x h)
