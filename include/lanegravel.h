@@ -130,6 +130,55 @@ uint32_t lanegravel_validate(struct lanegravel_rulings_params p);
 
 /* 0 where llr_clip and group_cap are finite and from 0 to 1,000,000, and otherwise 12. */
 uint32_t lanegravel_validate_fusion(struct lanegravel_fusion_params f);
+/* Levelling. A page of page_width by page_height is moved into a picture of width by height: page
+ * pixel (X, Y) goes to row R = Y + shear[X], column X + shear_x[R]. A call returns 0, or the number
+ * of the first question that is missed, and then writes nothing:
+ *   1  page and levelled sides 1 to 8,192, the page no larger than the picture either way
+ *   3  gray page_width * page_height bytes, shear page_width entries, shear_x height entries
+ *   4  shear entries 0 to height - page_height, shear_x entries 0 to width - page_width
+ *   6  the place or rectangle ordered and inside the picture
+ *  14  out exactly width * height bytes
+ * Lists that are lent to one call don't overlap where one of them is written. */
+
+/* Puts 1, 3, 4 and 14. Writes the levelled raster, row by row: a place that a page pixel reaches
+ * holds that pixel, every other 255. */
+uint32_t lanegravel_level_gray(size_t page_width, size_t page_height, size_t width, size_t height,
+                               const uint8_t *gray, size_t gray_count,
+                               const int32_t *shear, size_t shear_count,
+                               const int32_t *shear_x, size_t shear_x_count,
+                               uint8_t *out, size_t out_count);
+
+/* The number of the first missed question, and a page place: 0, 0 where the number is not 0. */
+struct lanegravel_mapped_place {
+    uint32_t number;
+    int64_t x;
+    int64_t y;
+};
+
+/* Puts 1, 3, 4 and 6. From levelled place (x, y) to the page; a place in the picture's padding maps
+ * outside the page, and reads shear at the nearest page column. */
+struct lanegravel_mapped_place
+lanegravel_to_page(size_t page_width, size_t page_height, size_t width, size_t height,
+                   const int32_t *shear, size_t shear_count,
+                   const int32_t *shear_x, size_t shear_x_count, uint32_t x, uint32_t y);
+
+/* The number of the first missed question, and a page rectangle, both ends inside it: all 0 where
+ * the number is not 0. */
+struct lanegravel_mapped_area {
+    uint32_t number;
+    uint32_t x0;
+    uint32_t y0;
+    uint32_t x1;
+    uint32_t y1;
+};
+
+/* Puts 1, 3, 4 and 6. The page rectangle around the four corners of a levelled rectangle, each
+ * mapped as by lanegravel_to_page, clamped into the page. */
+struct lanegravel_mapped_area
+lanegravel_rect_to_page(size_t page_width, size_t page_height, size_t width, size_t height,
+                        const int32_t *shear, size_t shear_count,
+                        const int32_t *shear_x, size_t shear_x_count,
+                        uint32_t x0, uint32_t y0, uint32_t x1, uint32_t y1);
 
 #ifdef __cplusplus
 }

@@ -2,4 +2,5 @@
 // `requires`, so nothing has to be vetted before a call. include/lanegravel.h declares them for C.
 mod floats;
 mod grouping;
+mod levelling;
 mod settings;

@@ -4,8 +4,10 @@
 //!     differential --replay DIR              write a fixed sample of the Rust's answers
 
 mod ffi;
+mod ffi_layout;
 mod floats;
 mod grouping;
+mod layout;
 mod params;
 mod random;
 mod replay;
@@ -75,6 +77,21 @@ const COMPARISONS: &[Comparison] = &[
         name: "validate_fusion",
         count: 1_000_000,
         run: params::validate_fusion,
+    },
+    Comparison {
+        name: "level_gray",
+        count: 250_000,
+        run: layout::level_gray,
+    },
+    Comparison {
+        name: "to_page",
+        count: 400_000,
+        run: layout::to_page,
+    },
+    Comparison {
+        name: "rect_to_page",
+        count: 400_000,
+        run: layout::rect_to_page,
     },
 ];
 

@@ -1,0 +1,2 @@
+-- What a reader must believe of the exported calls, beside the definitions of the crates below.
+pub mod Mapped

@@ -1,0 +1,134 @@
+//! The calls about levelling and the way back to the page, as include/lanegravel.h declares them.
+
+/// What the calls are given of a page.
+#[derive(Clone, Debug, Default)]
+pub struct Page {
+    pub page_width: usize,
+    pub page_height: usize,
+    pub width: usize,
+    pub height: usize,
+    pub gray: Vec<u8>,
+    pub shear: Vec<i32>,
+    pub shear_x: Vec<i32>,
+}
+
+unsafe extern "C" {
+    fn lanegravel_level_gray(
+        page_width: usize,
+        page_height: usize,
+        width: usize,
+        height: usize,
+        gray: *const u8,
+        gray_count: usize,
+        shear: *const i32,
+        shear_count: usize,
+        shear_x: *const i32,
+        shear_x_count: usize,
+        out: *mut u8,
+        out_count: usize,
+    ) -> u32;
+    fn lanegravel_to_page(
+        page_width: usize,
+        page_height: usize,
+        width: usize,
+        height: usize,
+        shear: *const i32,
+        shear_count: usize,
+        shear_x: *const i32,
+        shear_x_count: usize,
+        x: u32,
+        y: u32,
+    ) -> MappedPlace;
+    fn lanegravel_rect_to_page(
+        page_width: usize,
+        page_height: usize,
+        width: usize,
+        height: usize,
+        shear: *const i32,
+        shear_count: usize,
+        shear_x: *const i32,
+        shear_x_count: usize,
+        x0: u32,
+        y0: u32,
+        x1: u32,
+        y1: u32,
+    ) -> MappedArea;
+}
+
+#[repr(C)]
+struct MappedPlace {
+    number: u32,
+    x: i64,
+    y: i64,
+}
+
+#[repr(C)]
+struct MappedArea {
+    number: u32,
+    x0: u32,
+    y0: u32,
+    x1: u32,
+    y1: u32,
+}
+
+pub fn level_gray(page: &Page, out: &mut [u8]) -> u32 {
+    // SAFETY: each pointer is aligned and goes with its own count; `out` overlaps nothing.
+    unsafe {
+        lanegravel_level_gray(
+            page.page_width,
+            page.page_height,
+            page.width,
+            page.height,
+            page.gray.as_ptr(),
+            page.gray.len(),
+            page.shear.as_ptr(),
+            page.shear.len(),
+            page.shear_x.as_ptr(),
+            page.shear_x.len(),
+            out.as_mut_ptr(),
+            out.len(),
+        )
+    }
+}
+
+/// The number, column and row.
+pub fn to_page(page: &Page, x: u32, y: u32) -> [u64; 3] {
+    // SAFETY: each pointer is aligned and goes with its own count.
+    let mapped = unsafe {
+        lanegravel_to_page(
+            page.page_width,
+            page.page_height,
+            page.width,
+            page.height,
+            page.shear.as_ptr(),
+            page.shear.len(),
+            page.shear_x.as_ptr(),
+            page.shear_x.len(),
+            x,
+            y,
+        )
+    };
+    [mapped.number.into(), mapped.x as u64, mapped.y as u64]
+}
+
+/// The number, then x0, y0, x1, y1.
+pub fn rect_to_page(page: &Page, [x0, y0, x1, y1]: [u32; 4]) -> [u64; 5] {
+    // SAFETY: each pointer is aligned and goes with its own count.
+    let mapped = unsafe {
+        lanegravel_rect_to_page(
+            page.page_width,
+            page.page_height,
+            page.width,
+            page.height,
+            page.shear.as_ptr(),
+            page.shear.len(),
+            page.shear_x.as_ptr(),
+            page.shear_x.len(),
+            x0,
+            y0,
+            x1,
+            y1,
+        )
+    };
+    [mapped.number, mapped.x0, mapped.y0, mapped.x1, mapped.y1].map(u64::from)
+}
