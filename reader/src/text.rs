@@ -135,10 +135,9 @@ impl<'a> Words<'a> {
                 digits.len()
             ));
         }
-        digits
-            .chunks_exact(2)
-            .map(|pair| Ok(hex_digit(pair[0])? << 4 | hex_digit(pair[1])?))
-            .collect()
+        all_hex(digits)?;
+        let pairs = digits.chunks_exact(2);
+        Ok(pairs.map(|pair| hex(pair[0]) << 4 | hex(pair[1])).collect())
     }
 
     /// Nothing may follow.
@@ -185,16 +184,27 @@ fn float(word: &[u8]) -> Result<f64, String> {
     if word.len() != 16 {
         return Err(format!("{} is not a float of 16 hex digits", show(word)));
     }
-    let bits = word.iter().try_fold(0, |bits: u64, digit| {
-        Ok::<u64, String>(bits << 4 | u64::from(hex_digit(*digit)?))
-    })?;
+    all_hex(word)?;
+    let bits = word
+        .iter()
+        .fold(0, |bits, digit| bits << 4 | u64::from(hex(*digit)));
     Ok(f64::from_bits(bits))
 }
 
-fn hex_digit(digit: u8) -> Result<u8, String> {
+/// The word has lowercase hex digits and nothing else. Asked of the whole word before a digit is
+/// turned into its value, which keeps the turning quick.
+fn all_hex(word: &[u8]) -> Result<(), String> {
+    let digit = |byte: &u8| matches!(byte, b'0'..=b'9' | b'a'..=b'f');
+    match word.iter().find(|byte| !digit(byte)) {
+        None => Ok(()),
+        Some(other) => Err(format!("{} is not a lowercase hex digit", show(&[*other]))),
+    }
+}
+
+/// The value of a lowercase hex digit.
+fn hex(digit: u8) -> u8 {
     match digit {
-        b'0'..=b'9' => Ok(digit - b'0'),
-        b'a'..=b'f' => Ok(digit - b'a' + 10),
-        _ => Err(format!("{} is not a lowercase hex digit", show(&[digit]))),
+        b'0'..=b'9' => digit - b'0',
+        _ => digit - b'a' + 10,
     }
 }
