@@ -1,0 +1,66 @@
+//! What the lines of a text say.
+
+use lanegravel_reader::fields::{Fields, read};
+use lanegravel_reader::page::PAGE;
+use lanegravel_reader::settings::{COUNT_SETTINGS, FLOAT_SETTINGS};
+use lanegravel_reader::text::Lines;
+
+use crate::run::page;
+
+/// The fields of a page with these lines.
+fn fields(lines: &[String]) -> Fields {
+    let text = lines[1..].join("\n") + "\n";
+    let fields = read(&mut Lines::new(text.as_bytes()), &PAGE);
+    fields.unwrap_or_else(|failure| panic!("{failure}"))
+}
+
+#[test]
+fn each_line_fills_its_field() {
+    let fields = fields(&page());
+    assert_eq!((fields.page.width, fields.page.height), (2, 1));
+    assert_eq!((fields.levelled.width, fields.levelled.height), (2, 2));
+    assert_eq!((fields.dpi, fields.xheight), (300, 20.0));
+    assert_eq!((fields.llr_clip, fields.group_cap), (4.0, 6.0));
+    assert_eq!((fields.shear, fields.shear_x), (vec![0, 1], vec![0, -1]));
+    assert_eq!((fields.pieces, fields.glyphs), (vec![0, 0, 1, 1], vec![]));
+    assert_eq!(fields.gray, [0x0a, 0xff]);
+    assert_eq!(fields.ink, [0, 1, 0, 0]);
+    assert!(fields.rooms.is_empty());
+}
+
+#[test]
+fn each_setting_has_its_place() {
+    let mut lines = page();
+    for (place, name) in FLOAT_SETTINGS.iter().enumerate() {
+        lines[13 + place] = format!("setting {name} {:016x}", (place as f64).to_bits());
+    }
+    for (place, name) in COUNT_SETTINGS.iter().enumerate() {
+        lines[38 + place] = format!("setting {name} {place}");
+    }
+    let settings = fields(&lines).settings;
+    assert_eq!(
+        settings.floats.map(|x| x as usize),
+        std::array::from_fn(|i| i)
+    );
+    assert_eq!(settings.counts, [0, 1, 2, 3, 4]);
+}
+
+#[test]
+fn the_ends_of_each_type_fit() {
+    let mut lines = page();
+    lines[1] = "page 18446744073709551615 0".into();
+    lines[3] = "dpi 65535".into();
+    lines[4] = "xheight ffffffffffffffff".into();
+    lines[5] = "shear 2 -2147483648 2147483647".into();
+    lines[7] = "pieces 3 4294967295 000 0".into();
+    lines[42] = "setting grid_min_boxes 4294967295".into();
+    lines.insert(1, "room findings 18446744073709551615".into());
+    let fields = fields(&lines);
+    assert_eq!((fields.page.width, fields.page.height), (usize::MAX, 0));
+    assert_eq!(fields.dpi, u16::MAX);
+    assert_eq!(fields.xheight.to_bits(), u64::MAX);
+    assert_eq!(fields.shear, [i32::MIN, i32::MAX]);
+    assert_eq!(fields.pieces, [u32::MAX, 0, 0]);
+    assert_eq!(fields.settings.counts[4], u32::MAX);
+    assert_eq!(fields.rooms["findings"], usize::MAX);
+}
