@@ -72,18 +72,16 @@ pub fn answer_all(input: impl BufRead, mut output: impl Write) -> Result<(), Fai
 
 /// The kind of the text that begins here; none at the end of the input.
 fn first_line<R: BufRead>(lines: &mut Lines<R>) -> Result<Option<&'static Kind>, Failure> {
-    let Some(Line { number, text }) = lines.next_line()? else {
+    let Some(Line { text, .. }) = lines.next_line()? else {
         return Ok(None);
     };
     match text {
         b"lanegravel-page 1" => Ok(Some(&page::PAGE)),
         b"lanegravel-call 1" => call::named(lines).map(Some),
-        other => Err(Failure::Malformed {
-            line: number,
-            message: format!(
-                "a text begins `lanegravel-page 1` or `lanegravel-call 1`, not {}",
-                show(other)
-            ),
-        }),
+        other => {
+            let begins = "a text begins `lanegravel-page 1` or `lanegravel-call 1`";
+            let message = format!("{begins}, not {}", show(other));
+            Err(lines.malformed(message))
+        }
     }
 }
