@@ -1,24 +1,19 @@
 //! The answer text.
 
-use std::fmt;
+/// The number of the first question that was missed.
+pub struct Refused(pub u32);
 
-/// The library's answer to one text.
-pub enum Answer {
-    /// The number of the first question that was missed.
-    Refused(u32),
-    /// The lines that follow `accepted`, each with its newline.
-    Accepted(String),
-}
+/// The library's answer to one text: the lines that follow `accepted`, each with its newline, or
+/// the refusal.
+pub type Answer = Result<String, Refused>;
 
-impl fmt::Display for Answer {
-    fn fmt(&self, out: &mut fmt::Formatter) -> fmt::Result {
-        out.write_str("lanegravel-answer 1\n")?;
-        match self {
-            Answer::Refused(question) => writeln!(out, "refused {question}")?,
-            Answer::Accepted(lines) => write!(out, "accepted\n{lines}")?,
-        }
-        out.write_str("end\n")
-    }
+/// The whole answer text.
+pub fn text(answer: &Answer) -> String {
+    let lines = match answer {
+        Ok(lines) => format!("accepted\n{lines}"),
+        Err(Refused(question)) => format!("refused {question}\n"),
+    };
+    format!("lanegravel-answer 1\n{lines}end\n")
 }
 
 /// The 16 hex digits of a float's bits. All NaNs are written as one, since their bits mean nothing.
@@ -29,4 +24,28 @@ pub fn float(x: f64) -> String {
         x.to_bits()
     };
     format!("{bits:016x}")
+}
+
+/// The line of a raster: its length, and its hash in place of its bytes.
+pub fn raster(key: &str, bytes: &[u8]) -> String {
+    format!("{key} {} {:016x}\n", bytes.len(), fnv1a(bytes))
+}
+
+/// FNV-1a of 64 bits.
+fn fnv1a(bytes: &[u8]) -> u64 {
+    bytes.iter().fold(0xcbf2_9ce4_8422_2325, |hash, byte| {
+        (hash ^ u64::from(*byte)).wrapping_mul(0x100_0000_01b3)
+    })
+}
+
+#[cfg(test)]
+mod tests {
+    use super::fnv1a;
+
+    #[test]
+    fn hashes_that_are_published() {
+        assert_eq!(fnv1a(b""), 0xcbf2_9ce4_8422_2325);
+        assert_eq!(fnv1a(b"a"), 0xaf63_dc4c_8601_ec8c);
+        assert_eq!(fnv1a(b"foobar"), 0x8594_4171_f739_67e8);
+    }
 }

@@ -5,6 +5,7 @@ use std::io::BufRead;
 
 use crate::Failure;
 use crate::answer::Answer;
+use crate::ffi::{Levelling, Sides};
 use crate::settings::{self, Settings};
 use crate::text::{Line, Lines, Words, show};
 
@@ -37,13 +38,6 @@ impl Kind {
         let keys = self.keys.iter().map(|key| key.to_string());
         keys.chain(settings.map(|name| format!("setting {name}")))
     }
-}
-
-/// The sides of a picture, of any size: question 1 is the library's.
-#[derive(Debug, Default, Clone, Copy)]
-pub struct Sides {
-    pub width: usize,
-    pub height: usize,
 }
 
 /// What the lines of a text say. A field whose line the text's kind doesn't have stays empty.
@@ -100,6 +94,20 @@ impl Fields {
             _ => return Err("unknown line".into()),
         }
         words.finish()
+    }
+
+    /// How much is lent under this name: what its line says, or else what question 14 asks.
+    pub fn room(&self, name: &str, asked: usize) -> usize {
+        *self.rooms.get(name).unwrap_or(&asked)
+    }
+
+    pub fn levelling(&self) -> Levelling<'_> {
+        Levelling {
+            page: self.page,
+            levelled: self.levelled,
+            shear: &self.shear,
+            shear_x: &self.shear_x,
+        }
     }
 }
 

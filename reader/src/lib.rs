@@ -63,7 +63,7 @@ pub fn answer_all(input: impl BufRead, mut output: impl Write) -> Result<(), Fai
     while let Some(asked) = kind {
         let fields = fields::read(&mut lines, asked)?;
         let answer = asked.answer.ok_or(Failure::NotBuilt(asked.name))?;
-        write!(output, "{}", answer(&fields))?;
+        output.write_all(answer::text(&answer(&fields)).as_bytes())?;
         output.flush()?;
         kind = first_line(&mut lines)?;
     }
