@@ -18,6 +18,7 @@ use lib.Ieee.Exact.{HasValue}
 use borrow.Author.Tests.{leb-true, leb-false, le-leb, lt-leb}
 use Rattle.math.specs.Constants as Constants
 use Rattle.math.specs.Sum.{addedTo, short, halved, pairwiseSum}
+unfoldable pub use Rattle.math.specs.Sum.{whole, total}
 use Rattle.math.proofs.Value.{add-value}
 
 -- ---- the two sentences
@@ -83,9 +84,6 @@ added-all s xs i h = ap (addedTo s) (drop-of-length-le xs h)
 
 -- ---- whole numbers
 
-abbrev pub whole : ℕ → Float
-whole n = ofInt binary64 (pos n)
-
 pub whole-value : (n : ℕ) → n ≤ 2 ^ 53 → HasValue (whole n) false n 1
 unfolding ofInt
 whole-value n h = round-whole binary64 false n h
@@ -95,10 +93,6 @@ unfolding ofInt sum
 add-whole a b A B =
     add-value binary64 (whole a) (whole b) false false a 1 b 1 (pow-pos 0) (pow-pos 0) (whole-value a A) (whole-value b B)
     ∙ ap₂ (λ (x y : ℕ). round binary64 false (x + y) 1) (mul-one a) (mul-one b)
-
-unfoldable pub total : List ℕ → ℕ
-total [] = 0
-total (n ∷ ns) = n + total ns
 
 -- a total that has a in it already
 added-whole : (a : ℕ) (ns : List ℕ) → a + total ns ≤ 2 ^ 53 → addedTo (whole a) (map whole ns) ≡ whole (a + total ns)

@@ -1,10 +1,11 @@
 -- `pairwise_sum`.
-use Prim.Native.Nat.{ℕ, zero, suc, _/_}
+use Prim.Native.Nat.{ℕ, zero, suc, _+_, _/_}
 use mathlib.Core.Bool.{Bool, true, false}
 use mathlib.Core.List.{List, [], _∷_}
 use lib.Dec.{leb}
+use lib.IntN.{pos}
 use lib.ListN.{length, take, drop}
-use lib.Ieee.{Float, binary64, add}
+use lib.Ieee.{Float, binary64, add, ofInt}
 use Rattle.math.specs.Constants as Constants
 
 -- The values added to s, left to right.
@@ -30,3 +31,12 @@ halved (suc d) false xs =
 -- There are always cuts enough: the laws `sum-of-short` and `sum-of-long` (proofs/Sums.antt) are this sentence.
 abbrev pub pairwiseSum : List Float → Float
 pairwiseSum xs = halved (length xs) (short xs) xs
+
+-- A whole number as a float.
+abbrev pub whole : ℕ → Float
+whole n = ofInt binary64 (pos n)
+
+-- The sum of whole numbers. While it is at most 2^53 it is the pairwise sum of them as floats: the law `sum-whole`.
+unfoldable pub total : List ℕ → ℕ
+total [] = 0
+total (n ∷ ns) = n + total ns
