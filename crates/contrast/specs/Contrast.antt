@@ -1,0 +1,33 @@
+-- The contrast of a ruling: the paper's level less the mean of the darkest pixels across the ruling.
+use mathlib.Core.Path.{_≡_}
+use Prim.Native.Nat.{ℕ, _*_, _≤_}
+use mathlib.Core.Bool.{Bool}
+use mathlib.Core.List.{List, map}
+use lib.ListN.{length}
+use lib.Ieee.{Float, binary64, sub, div}
+use Rattle.math.specs.Sum.{pairwiseSum, whole, total}
+use Rattle.math.specs.Near.{Within}
+use Rattle.rects.proofs.Questions.{Inside}
+use Rattle.rects.specs.declared.Rect.{Rect}
+use Rattle.contrast.specs.Pixels.{darkest, samples}
+use Rattle.contrast.specs.Median.{median}
+
+-- A ruling's rectangle on a picture of w columns and h rows.
+pub record OnPicture (raster : List ℕ) (w h : ℕ) (r : Rect) : Type 0 where
+  pub full : length raster ≡ w * h
+  pub narrow : w ≤ 8192
+  pub low : h ≤ 8192
+  pub inside : Inside w h r
+
+-- The samples' median minus sum over count, in f64: one rounding in the division and one in the subtraction.
+abbrev pub medianLessMean : List ℕ → List ℕ → Float
+medianLessMean paper dark = sub binary64 (whole (median paper)) (div binary64 (pairwiseSum (map whole dark)) (whole (length dark)))
+
+-- The contrast of a ruling.
+unfoldable pub contrastOf : List ℕ → ℕ → ℕ → Rect → Bool → Float
+contrastOf raster w h r horizontal = medianLessMean (samples raster w h r horizontal) (darkest raster w r horizontal)
+
+-- What is promised of a ruling's contrast x.
+pub record Contrasted (raster : List ℕ) (w h : ℕ) (r : Rect) (horizontal : Bool) (x : Float) : Type 0 where
+  pub value : x ≡ contrastOf raster w h r horizontal
+  pub near : Within 45 x (median (samples raster w h r horizontal) * length (darkest raster w r horizontal)) (total (darkest raster w r horizontal)) (length (darkest raster w r horizontal))

@@ -1,0 +1,5 @@
+-- What a reader must believe of `contrast`; `Counting` is what sampling and the functions below the contrast promise.
+pub mod Pixels
+pub mod Median
+pub mod Contrast
+pub mod Counting
