@@ -2,17 +2,16 @@
 use mathlib.Core.Path.{_≡_, sym, ap, ap₂, _∙_, subst}
 use mathlib.Core.Bool.{Bool, true, false}
 use mathlib.Core.List.{List, map}
-use Prim.Native.Nat.{ℕ, _+_, _-_, _*_, _^_, _<_, _≤_}
+use Prim.Native.Nat.{ℕ, _-_, _*_, _<_, _≤_}
 use native.Mathlib.Nat.{mul-comm, le-trans, le-of-eq}
 use native.Mathlib.Omega.{arith}
 use lib.ListN.{length}
 use lib.Ieee.{Float, binary64, sub, div}
 use Rattle.math.specs.Sum.{pairwiseSum, whole, total}
 use Rattle.math.specs.Near.{Within}
-use Rattle.math.proofs.Sums.{EachLe, total-le, sum-bytes}
+use Rattle.math.proofs.Sums.{total-le, sum-bytes}
 use Rattle.math.proofs.Mean.{mean-within}
 use Rattle.rects.specs.declared.Rect.{Rect}
-use Rattle.rects.proofs.Questions.{Inside}
 use Rattle.contrast.specs.Pixels.{samples, darkest}
 use Rattle.contrast.specs.Median.{median}
 use Rattle.contrast.specs.Contrast.{OnPicture, contrastOf, Contrasted}

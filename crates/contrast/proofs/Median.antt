@@ -1,5 +1,5 @@
 -- Why a median can be read off counts: an entry of an ascending list is at least v exactly when enough entries are. Assumes nothing.
-use mathlib.Core.Path.{_≡_, refl, sym, ap, _∙_, subst}
+use mathlib.Core.Path.{_≡_, refl, sym, ap, _∙_}
 use mathlib.Core.Bool.{Bool, true, false, cond}
 use mathlib.Core.List.{List, [], _∷_}
 use Prim.Native.Nat.{ℕ, zero, suc, _+_, _-_, _/_, _<_, _≤_}
@@ -7,8 +7,7 @@ use native.Mathlib.Nat.{le-trans, le-of-lt, not-suc-le-zero, le-of-suc-le-suc}
 use native.Mathlib.Omega.{arith}
 use lib.Dec.{leb, ltb}
 use lib.ListN.{length, getD}
-use borrow.Author.Tests.{leb-true, leb-false, ltb-true, ltb-false, le-leb, lt-leb}
-use Rattle.lists.specs.Lists.{keep}
+use borrow.Author.Tests.{leb-true, leb-false, ltb-true, ltb-false, le-leb}
 use Rattle.lists.proofs.Sizes.{one, keep-size, keep-size-le}
 use Rattle.contrast.specs.Counting.{many}
 use Rattle.contrast.specs.Median.{insert, sorted, median}

@@ -1,5 +1,5 @@
 -- Pixels row by row: where they stand in the raster, and how many there are. Assumes nothing.
-use mathlib.Core.Path.{_≡_, refl, sym, ap, ap₂, _∙_}
+use mathlib.Core.Path.{_≡_, refl, sym, ap, _∙_}
 use mathlib.Core.Bool.{Bool}
 use mathlib.Core.List.{List, [], _∷_, _++_, map, append-nil}
 use Prim.Native.Nat.{ℕ, suc, _+_, _*_, _^_, _<_, _≤_}
@@ -7,7 +7,7 @@ use native.Mathlib.Nat.{suc-mul, mul-one, mul-comm, zero-mul, mul-le-mul-right}
 use native.Mathlib.Omega.{arith}
 use lib.Dec.{eqb}
 use lib.ListN.{length, getD, length-append, length-map}
-use Rattle.lists.specs.Lists.{below, keep, concat}
+use Rattle.lists.specs.Lists.{below, concat}
 use Rattle.lists.proofs.Keep.{map-append, map-same, concat-append, values-more, length-values}
 use Rattle.lists.proofs.Sizes.{keep-size-le}
 use Rattle.contrast.specs.Pixels.{pixel, run, pixelsIn}
@@ -22,9 +22,9 @@ map-map f g (x ∷ xs) = ap (λ t. f (g x) ∷ t) (map-map f g xs)
 pub values-same : {A : Type 0} (f g : ℕ → A) (n : ℕ) → ((k : ℕ) → f k ≡ g k) → map f (below n) ≡ map g (below n)
 values-same f g n h = map-same f g (below n) (λ k m. h k)
 
--- a pixel of the picture stands in the raster
-pub pixel-inside : (w h x y : ℕ) → x < w → y < h → y * w + x < w * h
-pixel-inside w h x y X Y =
+-- a part of a row of the picture lies in the raster
+pub row-inside : (w h x y n : ℕ) → x + n ≤ w → y < h → y * w + x + n ≤ w * h
+row-inside w h x y n X Y =
     let a : suc y * w ≤ h * w = mul-le-mul-right w Y in
     omega (arith, suc-mul y w, mul-comm h w)
 

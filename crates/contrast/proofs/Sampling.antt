@@ -1,8 +1,8 @@
 -- The samples lie in two areas, and the counts have room for them: at most eight places wide, and as long as the ruling. Assumes nothing.
-use mathlib.Core.Path.{_≡_, refl, sym, ap, ap₂, _∙_, subst}
+use mathlib.Core.Path.{_≡_, sym, ap₂, _∙_}
 use mathlib.Core.Bool.{Bool, true, false}
 use mathlib.Core.List.{List, _++_}
-use Prim.Native.Nat.{ℕ, suc, _+_, _-_, _*_, _^_, _<_, _≤_}
+use Prim.Native.Nat.{ℕ, suc, _+_, _-_, _*_, _<_, _≤_}
 use native.Mathlib.Nat.{add-mul, mul-add, suc-mul, mul-comm, mul-le-mul, mul-le-mul-right, le-trans, le-of-eq}
 use native.Mathlib.Omega.{arith}
 use lib.Dec.{eqb}
@@ -13,18 +13,12 @@ use Rattle.rects.specs.Rects.{widthOf, heightOf}
 use Rattle.rects.proofs.Questions.{Inside}
 use Rattle.contrast.specs.declared.areas.Strips.{Strips}
 use Rattle.contrast.specs.declared.areas.Area.{Area}
-use Rattle.contrast.specs.declared.areas.Areas.{Areas}
-use Rattle.contrast.specs.Pixels.{run, span, beside, pixelsIn, samples}
+use Rattle.contrast.specs.Pixels.{run, pixelsIn, samples}
 use Rattle.contrast.specs.Counting.{many, line, RoomFor, Clear, Counted, Beside, AreaInside, Sampled, pixelsOf}
 use Rattle.contrast.proofs.Many.{counted-then}
 use Rattle.contrast.proofs.Pixels.{row-pixels, rows-more, rows-split, columns-split, pixels-number, run-length}
 
 -- ---- the rows of an area
-
-pub row-inside : (raster : List ℕ) (w h x y columns rows k : ℕ) → length raster ≡ w * h → x + columns ≤ w → y + rows ≤ h → k < rows → (y + k) * w + x + columns ≤ length raster
-row-inside raster w h x y columns rows k full X Y l =
-    let a : suc (y + k) * w ≤ h * w = mul-le-mul-right w (omega arith) in
-    omega (arith, suc-mul (y + k) w, mul-comm h w)
 
 area-number : (raster : List ℕ) (w x y columns k : ℕ) → length (pixelsIn raster w (run x columns) (run y k)) ≡ k * columns
 area-number raster w x y columns k = pixels-number raster w (run x columns) (run y k) ∙ ap₂ _*_ (run-length y k) (run-length x columns)

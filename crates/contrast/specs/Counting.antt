@@ -11,7 +11,7 @@ use Rattle.rects.specs.declared.Rect.{Rect}
 use Rattle.contrast.specs.declared.areas.Strips.{Strips}
 use Rattle.contrast.specs.declared.areas.Area.{Area}
 use Rattle.contrast.specs.declared.areas.Areas.{Areas}
-use Rattle.contrast.specs.Pixels.{run, beside, pixelsIn, samples}
+use Rattle.contrast.specs.Pixels.{run, darkestOf, beside, pixelsIn, samples}
 
 -- How many entries pass a test.
 abbrev pub many : (ℕ → Bool) → List ℕ → ℕ
@@ -50,6 +50,22 @@ TallyOf n counts = (xs : List ℕ) × (length xs ≡ n) × Tallied xs counts
 -- n pixels from start on, step apart.
 abbrev pub line : List ℕ → ℕ → ℕ → ℕ → List ℕ
 line raster start n step = map (λ k. getD raster (start + k * step) 0) (below n)
+
+-- For each of n columns from start on, the darkest pixel of some rows of a raster that is w wide.
+abbrev pub columnsDarkest : List ℕ → ℕ → ℕ → ℕ → ℕ → List ℕ
+columnsDarkest raster start n rows w = map (λ i. darkestOf (line raster (start + i) rows w)) (below n)
+
+-- For each of n rows of a raster that is w wide, the darkest of some columns from start on.
+abbrev pub rowsDarkest : List ℕ → ℕ → ℕ → ℕ → ℕ → List ℕ
+rowsDarkest raster start n columns w = map (λ i. darkestOf (line raster (start + i * w) columns 1)) (below n)
+
+-- The first n entries are the darkest pixels of n columns in the first rows.
+abbrev pub Darkened : List ℕ → ℕ → ℕ → ℕ → ℕ → List ℕ → Type 0
+Darkened raster start n rows w least = (i : ℕ) → i < n → getD least i 0 ≡ darkestOf (line raster (start + i) rows w)
+
+-- Rows of n pixels from start on lie in the raster.
+abbrev pub RowsInside : List ℕ → ℕ → ℕ → ℕ → ℕ → Type 0
+RowsInside raster start n rows w = (k : ℕ) → k < rows → start + k * w + n ≤ length raster
 
 -- How many places there are along a ruling.
 abbrev pub placesAlong : Rect → Bool → ℕ

@@ -1,6 +1,6 @@
 // Where the samples of the paper lie: two areas, on either side of the ruling, 3 to 6 pixels away.
 ghost use mathlib.Core.Path.{_≡_};
-ghost use Prim.Native.Nat.{_+_, _-_, _*_, _≤_, _<_, min};
+ghost use Prim.Native.Nat.{_+_, _-_, _≤_, _<_, min};
 ghost use Rattle.rects.proofs.Questions.{Inside};
 ghost use Rattle.contrast.specs.Counting.{Beside, Sampled};
 use rects::Rect;
@@ -33,7 +33,7 @@ fn less(a: usize, k: usize) -> usize
     if a < k { 0 } else { a - k }
 }
 
-fn least(a: usize, b: usize) -> usize
+pub fn least(a: usize, b: usize) -> usize
     ensures { λ r. ⌜ r ≡ min a b ⌝ }
 {
     if a < b { a } else { b }

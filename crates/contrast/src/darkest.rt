@@ -1,25 +1,23 @@
 // The darkest pixel across a ruling, for each place along it.
 ghost use mathlib.Core.Path.{_≡_};
-ghost use mathlib.Core.List.{map};
-ghost use Prim.Native.Nat.{ℕ, _+_, _*_, _≤_, _<_};
+ghost use Prim.Native.Nat.{_+_, _≤_};
 ghost use lib.ListN.{length};
-ghost use Rattle.lists.specs.Lists.{below};
 ghost use Rattle.math.specs.Sum.{total};
 ghost use Rattle.rects.proofs.Questions.{Inside};
 ghost use Rattle.contrast.specs.Contrast.{OnPicture};
 ghost use Rattle.contrast.specs.Pixels.{darkest, darkestOf};
-ghost use Rattle.contrast.specs.Counting.{line, placesAlong};
+ghost use Rattle.contrast.specs.Counting.{line, rowsDarkest, RowsInside, placesAlong};
 use rects::Rect;
 
-// The darkest of n pixels from start on, step apart.
-fn darkest_of(raster: &[u8], start: usize, n: usize, step: usize) -> u8
-    requires { ⌜ ((k : ℕ) → k < n → start + k * step < length (now raster)) ⌝ }
-    ensures { λ p. ⌜ p ≡ darkestOf (line (now (raster .entry)) start n step) ⌝ }
+// The darkest of n pixels from start on.
+fn darkest_of(raster: &[u8], start: usize, n: usize) -> u8
+    requires { ⌜ start + n ≤ length (now raster) ⌝ }
+    ensures { λ p. ⌜ p ≡ darkestOf (line (now (raster .entry)) start n 1) ⌝ }
 {
     let mut least = 255;
     let mut k = 0;
     while k < n {
-        let p = raster[start + k * step];
+        let p = raster[start + k];
         if p < least {
             least = p;
         }
@@ -28,15 +26,15 @@ fn darkest_of(raster: &[u8], start: usize, n: usize, step: usize) -> u8
     least
 }
 
-// The sum over n lines, `along` apart, of the darkest of m pixels, `across` apart.
-fn sum_of_lines(raster: &[u8], start: usize, n: usize, along: usize, m: usize, across: usize) -> u32
-    requires { ⌜ (n ≤ 8192) × (0 < m) × ((i k : ℕ) → i < n → k < m → start + i * along + k * across < length (now raster)) ⌝ }
-    ensures { λ s. ⌜ s ≡ total (map (λ i. darkestOf (line (now (raster .entry)) (start + i * along) m across)) (below n)) ⌝ }
+// The sum over n rows, of the darkest of some columns.
+fn sum_of_rows(raster: &[u8], start: usize, n: usize, columns: usize, w: usize) -> u32
+    requires { ⌜ (n ≤ 8192) × RowsInside (now raster) start columns n w ⌝ }
+    ensures { λ s. ⌜ s ≡ total (rowsDarkest (now (raster .entry)) start n columns w) ⌝ }
 {
     let mut sum = 0;
     let mut i = 0;
     while i < n {
-        sum += darkest_of(raster, start + i * along, m, across) as u32;
+        sum += darkest_of(raster, start + i * w, columns) as u32;
         i += 1;
     }
     sum
@@ -51,9 +49,9 @@ pub fn darkest_sum(raster: &[u8], w: usize, h: usize, r: Rect, horizontal: bool)
     let columns = r.width() as usize;
     let rows = r.height() as usize;
     if horizontal {
-        return sum_of_lines(raster, start, columns, 1, rows, w);
+        return crate::columns::sum_of_columns(raster, start, columns, rows, w);
     }
-    sum_of_lines(raster, start, rows, w, columns, 1)
+    sum_of_rows(raster, start, rows, columns, w)
 }
 
 // How many places there are along a ruling.

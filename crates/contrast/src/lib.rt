@@ -1,8 +1,8 @@
 // The contrast of one ruling: the level of the paper beside it less the mean of the darkest pixels across it.
-ghost use mathlib.Core.Path.{_≡_};
 ghost use Rattle.contrast.specs.Contrast.{OnPicture, Contrasted};
 
 mod areas;
+mod columns;
 mod darkest;
 mod level;
 pub mod samples;

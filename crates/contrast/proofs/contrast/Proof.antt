@@ -1,5 +1,5 @@
 -- `contrast::contrast` meets its contract: level, sum and count are whole numbers, and `contrasted` is the law of their floats. Assumes nothing.
-use mathlib.Core.Path.{_≡_, sym, _∙_}
+use mathlib.Core.Path.{sym}
 use native.Mathlib.Omega.{arith}
 use native.Mathlib.Nat.{le-of-eq}
 use lib.Dec.{lit≤}

@@ -1,6 +1,5 @@
 -- `contrast::areas::strips_of` meets its contract: the two runs of the law `beside-runs`. Assumes nothing.
-use mathlib.Core.Path.{_≡_, sym, _∙_}
-use Prim.Native.Nat.{ℕ, _+_, _-_, _≤_, _<_, min}
+use Prim.Native.Nat.{_-_}
 use native.Mathlib.Omega.{arith}
 use borrow.Author.Needs.{needs}
 use Rattle.contrast.proofs.Places.{beside-runs}

@@ -1,5 +1,4 @@
 -- `contrast::darkest::along` meets its contract. Assumes nothing.
-use mathlib.Core.Path.{_≡_, sym, ap, _∙_}
 use borrow.Author.Needs.{needs}
 use Rattle.contrast.proofs.darkest.along.Statement.{statement}
 use Rattle.contrast.proofs.darkest.along.Tie as tie

@@ -1,17 +1,17 @@
 -- `contrast::darkest::darkest_sum` meets its contract: a ruling's pixels across it are lines of the raster. Assumes nothing.
-use mathlib.Core.Path.{_≡_, sym, _∙_}
-use Prim.Native.Nat.{ℕ, _+_, _*_, _<_, _≤_}
+use mathlib.Core.Path.{_∙_}
+use Prim.Native.Nat.{_+_, _*_, _<_, _≤_}
 use native.Mathlib.Omega.{arith}
 use lib.ListN.{length}
 use borrow.Author.Needs.{needs}
-use Rattle.contrast.proofs.Pixels.{pixel-inside}
-use Rattle.contrast.proofs.Lines.{columns-inside, rows-inside, horizontal-sum, vertical-sum}
+use Rattle.contrast.proofs.Pixels.{row-inside}
+use Rattle.contrast.proofs.Lines.{rows-inside, horizontal-sum, vertical-sum}
 use Rattle.contrast.proofs.darkest.darkest_sum.Statement.{statement}
 use Rattle.contrast.proofs.darkest.darkest_sum.Tie as tie
 
 -- the first pixel lies in the raster
 in-raster : (c : tie.Start) → c .args .r .y0 * c .args .w + c .args .r .x0 < length (c .args .raster .now)
-in-raster c = rw (c .pre .full) (pixel-inside (c .args .w) (c .args .h) (c .args .r .x0) (c .args .r .y0) (omega (arith, c .pre .inside .wide, c .pre .inside .right)) (omega (arith, c .pre .inside .high, c .pre .inside .bottom)))
+in-raster c = omega (arith, row-inside (c .args .w) (c .args .h) (c .args .r .x0) (c .args .r .y0) 1 (omega (arith, c .pre .inside .wide, c .pre .inside .right)) (omega (arith, c .pre .inside .high, c .pre .inside .bottom)), c .pre .full)
 
 cast-start : tie.Need-cast-start
 cast-start c = search needs
@@ -37,35 +37,35 @@ height-requires c κs = search needs
 cast-rows : tie.Need-cast-rows
 cast-rows c = search needs
 
-sum-of-lines-requires : tie.Need-sum-of-lines-requires
-sum-of-lines-requires c κs =
+sum-of-columns-requires : tie.Need-sum-of-columns-requires
+sum-of-columns-requires c κs =
     let start = c .before .before .before .before .before .before in
     let on = start .pre in
     let n = c .before .before .width in
     let m = c .before .height in
     let X : start .args .r .x0 + n .result ≤ start .args .w = omega (arith, n .ensures, on .inside .wide, on .inside .right) in
     let Y : start .args .r .y0 + m .result ≤ start .args .h = omega (arith, m .ensures, on .inside .high, on .inside .bottom) in
-    (omega (arith, on .narrow), omega (arith, m .ensures), columns-inside (start .args .raster .now) (start .args .w) (start .args .h) (start .args .r .x0) (start .args .r .y0) (n .result) (m .result) (on .full) X Y)
+    (omega (arith, on .narrow), omega (arith, m .ensures), rows-inside (start .args .raster .now) (start .args .w) (start .args .h) (start .args .r .x0) (start .args .r .y0) (n .result) (m .result) (on .full) X Y)
 
 returns : tie.Need-returns
 returns c =
     let start = c .before .before .before .before .before .before .before .args in
-    c .sum-of-lines .ensures ∙ horizontal-sum (start .raster .now) (start .w) (start .r) (start .horizontal) (c .before .before .before .width .result) (c .before .before .height .result) (c .before .before .before .width .ensures) (c .before .before .height .ensures) (c .before .if1 .taken)
+    c .sum-of-columns .ensures ∙ horizontal-sum (start .raster .now) (start .w) (start .r) (start .horizontal) (c .before .before .before .width .result) (c .before .before .height .result) (c .before .before .before .width .ensures) (c .before .before .height .ensures) (c .before .if1 .taken)
 
-sum-of-lines-requires-2 : tie.Need-sum-of-lines-requires-2
-sum-of-lines-requires-2 c κs =
+sum-of-rows-requires : tie.Need-sum-of-rows-requires
+sum-of-rows-requires c κs =
     let start = c .before .before .before .before .before .before in
     let on = start .pre in
     let n = c .before .before .width in
     let m = c .before .height in
     let X : start .args .r .x0 + n .result ≤ start .args .w = omega (arith, n .ensures, on .inside .wide, on .inside .right) in
     let Y : start .args .r .y0 + m .result ≤ start .args .h = omega (arith, m .ensures, on .inside .high, on .inside .bottom) in
-    (omega (arith, on .low), omega (arith, n .ensures), rows-inside (start .args .raster .now) (start .args .w) (start .args .h) (start .args .r .x0) (start .args .r .y0) (m .result) (n .result) (on .full) Y X)
+    (omega (arith, on .low), rows-inside (start .args .raster .now) (start .args .w) (start .args .h) (start .args .r .x0) (start .args .r .y0) (n .result) (m .result) (on .full) X Y)
 
 returns-2 : tie.Need-returns-2
 returns-2 c =
     let start = c .before .before .before .before .before .before .before .args in
-    c .sum-of-lines2 .ensures ∙ vertical-sum (start .raster .now) (start .w) (start .r) (start .horizontal) (c .before .before .before .width .result) (c .before .before .height .result) (c .before .before .before .width .ensures) (c .before .before .height .ensures) (c .before .if1 .left)
+    c .sum-of-rows .ensures ∙ vertical-sum (start .raster .now) (start .w) (start .r) (start .horizontal) (c .before .before .before .width .result) (c .before .before .height .result) (c .before .before .before .width .ensures) (c .before .before .height .ensures) (c .before .if1 .left)
 
 pub darkest-sum-spec : {M : Type 1} → statement M
 darkest-sum-spec =
@@ -79,7 +79,7 @@ darkest-sum-spec =
     cast-columns
     height-requires
     cast-rows
-    sum-of-lines-requires
+    sum-of-columns-requires
     returns
-    sum-of-lines-requires-2
+    sum-of-rows-requires
     returns-2)

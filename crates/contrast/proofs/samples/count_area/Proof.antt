@@ -1,12 +1,13 @@
 -- `contrast::samples::count_area` meets its contract: after k turns the first k rows are counted. Assumes nothing.
-use mathlib.Core.Path.{_≡_, refl, sym, ap, _∙_, subst}
-use Prim.Native.Nat.{ℕ, _+_, _-_, _*_, _≤_, _<_}
+use mathlib.Core.Path.{_≡_, refl, _∙_}
+use Prim.Native.Nat.{_+_, _-_, _*_, _≤_}
 use native.Mathlib.Omega.{arith}
-use lib.ListN.{length, getD}
+use lib.ListN.{length}
 use Rattle.contrast.specs.Pixels.{run, pixelsIn}
-use Rattle.contrast.specs.Counting.{line, Counted, RoomFor}
+use Rattle.contrast.specs.Counting.{Counted}
 use Rattle.contrast.proofs.Many.{counted-none}
-use Rattle.contrast.proofs.Sampling.{row-inside, room-left, area-more}
+use Rattle.contrast.proofs.Pixels.{row-inside}
+use Rattle.contrast.proofs.Sampling.{room-left, area-more}
 use Rattle.contrast.proofs.samples.count_area.Statement.{statement}
 use Rattle.contrast.proofs.samples.count_area.Tie as tie
 
@@ -21,7 +22,7 @@ inside : (c : tie.In-loop Inv-loop μ-loop) → (c .before .before .before .befo
 inside c =
     let start = c .before .before .before .before in
     let a = start .args .a in
-    row-inside (start .args .raster .now) (start .args .w) (start .args .h) (a .x) (a .y) (a .columns) (a .rows) (c .before .loop .k) (start .pre .0) (start .pre .1 .right) (start .pre .1 .bottom) (c .loop-test .taken)
+    rw (start .pre .0) (row-inside (start .args .w) (start .args .h) (a .x) (a .y + c .before .loop .k) (a .columns) (start .pre .1 .right) (omega (arith, start .pre .1 .bottom, c .loop-test .taken)))
 
 loop-holds : tie.Need-loop-holds Inv-loop μ-loop
 loop-holds c = (omega arith, refl, counted-none (c .before .before .args .counts .now))

@@ -1,10 +1,9 @@
 -- `contrast::samples::count_row` meets its contract: after i turns the first i pixels are counted. Assumes nothing.
-use mathlib.Core.Path.{_≡_, refl, sym, ap, _∙_, subst}
-use Prim.Native.Nat.{ℕ, _+_, _-_, _*_, _≤_, _<_}
+use mathlib.Core.Path.{_≡_, refl}
+use Prim.Native.Nat.{_+_, _-_, _≤_, _<_}
 use native.Mathlib.Omega.{arith}
-use borrow.Author.Needs.{needs}
 use lib.ListN.{length, getD, length-set}
-use Rattle.contrast.specs.Counting.{line, Counted, RoomFor}
+use Rattle.contrast.specs.Counting.{line, Counted}
 use Rattle.contrast.proofs.Many.{counted-none, counted-more}
 use Rattle.contrast.proofs.Pixels.{row-more, counted-fits}
 use Rattle.contrast.proofs.samples.count_row.Statement.{statement}

@@ -1,5 +1,5 @@
 -- `contrast::samples::sample` meets its contract: two areas are counted, and hold the samples between them. Assumes nothing.
-use mathlib.Core.Path.{_≡_, sym, _∙_}
+use mathlib.Core.Path.{sym}
 use Prim.Native.Nat.{_*_}
 use native.Mathlib.Omega.{arith}
 use borrow.Author.Needs.{needs}
