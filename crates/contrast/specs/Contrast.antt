@@ -7,7 +7,7 @@ use lib.ListN.{length}
 use lib.Ieee.{Float, binary64, sub, div}
 use Rattle.math.specs.Sum.{pairwiseSum, whole, total}
 use Rattle.math.specs.Near.{Within}
-use Rattle.rects.proofs.Questions.{Inside}
+use Rattle.rects.specs.Rects.{Inside}
 use Rattle.rects.specs.declared.Rect.{Rect}
 use Rattle.contrast.specs.Pixels.{darkest, samples}
 use Rattle.contrast.specs.Median.{median}

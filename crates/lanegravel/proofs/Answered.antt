@@ -9,7 +9,7 @@ use lib.Dec.{eqb}
 use lib.IntN.{ℤ, pos}
 use lib.Signed.{mag}
 use Rattle.layout.specs.declared.sides.Sides.{Sides}
-use Rattle.layout.specs.declared.rect.Rect.{Rect}
+use Rattle.rects.specs.declared.Rect.{Rect}
 use Rattle.layout.specs.declared.rect.PageRect.{PageRect}
 use Rattle.layout.specs.declared.page.Levelled.{Levelled}
 use Rattle.layout.specs.declared.page.PagePlace.{PagePlace}

@@ -6,7 +6,7 @@ use lib.Dec.{eqb}
 use lib.IntN.{ℤ, pos}
 use Rattle.questions.specs.Questions.{firstMissed}
 use Rattle.layout.specs.declared.sides.Sides.{Sides}
-use Rattle.layout.specs.declared.rect.Rect.{Rect}
+use Rattle.rects.specs.declared.Rect.{Rect}
 use Rattle.layout.specs.declared.page.Levelled.{Levelled}
 use Rattle.layout.specs.ToPage.{toPage, rectToPage}
 use Rattle.layout.specs.Calls.{mapQuestions, onePixel}

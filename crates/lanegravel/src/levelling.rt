@@ -5,8 +5,8 @@ ghost use Rattle.lanegravel.specs.Mapped.{PlaceMapped, AreaMapped};
 use layout::calls::Mapped;
 use layout::calls::MappedRect;
 use layout::page::Levelled;
-use layout::rect::Rect;
 use layout::sides::Sides;
+use rects::Rect;
 
 // The number of the first missed question, and the page place, 0 and 0 on refusal.
 #[repr(C)]

@@ -11,10 +11,8 @@ use lib.ListN.{length, getD}
 use lib.Signed.{nonNeg}
 use borrow.Author.Tests.{leb-true, ltb-true, eqb-true, le-leb, lt-ltb, eq-eqb}
 use Rattle.layout.specs.declared.sides.Sides.{Sides}
-use Rattle.layout.specs.declared.rect.Rect.{Rect}
 use Rattle.layout.specs.Sides.{sideFits, sidesFit, rasterFits}
 use Rattle.layout.specs.Tables.{entry, entryFits, entriesFit, tablesLong, tablesFit, Table, Sheared}
-use Rattle.layout.specs.Rects.{rectFits, rectAt, rectsCounted, rectsFit}
 use Rattle.layout.proofs.Every.{and-true, and-parts, every-at, every-of}
 use Rattle.layout.proofs.Entries.{whole-not-below}
 
@@ -121,42 +119,3 @@ module _ (sides : Sides) (shear shear-x : List ℤ) where
     long-of (s .columns .long) (s .rows .long),
     and-true (table-of (sides .pw) (sides .h - sides .ph) shear (s .columns)) (table-of (sides .h) (sides .w - sides .pw) shear-x (s .rows)),
   )
-
--- ---- questions 5 and 6
-
-pub counted-yes : (n : ℕ) (xs : List ℕ) → rectsCounted n xs ≡ true → (length xs ≤ 4 * n) × (length xs % 4 ≡ 0)
-counted-yes n xs h =
-    let p = and-parts (leb (length xs) (4 * n)) (eqb (length xs % 4) 0) h in
-    (leb-true (length xs) (4 * n) (p .0), eqb-true (length xs % 4) 0 (p .1))
-
-pub counted-of : (n : ℕ) (xs : List ℕ) → length xs ≤ 4 * n → length xs % 4 ≡ 0 → rectsCounted n xs ≡ true
-counted-of n xs p q = and-true (le-leb (length xs) (4 * n) p) (eq-eqb (length xs % 4) 0 q)
-
--- a rectangle that is ordered and inside
-pub record RectIs (w h : ℕ) (r : Rect) : Type 0 where
-  pub across : r .x0 ≤ r .x1
-  pub down : r .y0 ≤ r .y1
-  pub column : r .x1 < w
-  pub row : r .y1 < h
-
-module _ (w h : ℕ) where
-  pub rect-yes : (r : Rect) → rectFits w h r ≡ true → RectIs w h r
-  rect-yes r t =
-      let p = and-parts (leb (r .x0) (r .x1) && leb (r .y0) (r .y1)) (ltb (r .x1) w && ltb (r .y1) h) t in
-      let o = and-parts (leb (r .x0) (r .x1)) (leb (r .y0) (r .y1)) (p .0) in
-      let i = and-parts (ltb (r .x1) w) (ltb (r .y1) h) (p .1) in
-      record { across = leb-true (r .x0) (r .x1) (o .0); down = leb-true (r .y0) (r .y1) (o .1); column = ltb-true (r .x1) w (i .0); row = ltb-true (r .y1) h (i .1) }
-
-  pub rect-of : (r : Rect) → RectIs w h r → rectFits w h r ≡ true
-  rect-of r t =
-      and-true
-      (and-true (le-leb (r .x0) (r .x1) (t .across)) (le-leb (r .y0) (r .y1) (t .down)))
-      (and-true (lt-ltb (r .x1) w (t .column)) (lt-ltb (r .y1) h (t .row)))
-
-  pub rects-yes : (xs : List ℕ) → rectsFit w h xs ≡ true → (i : ℕ) → i < length xs / 4 → RectIs w h (rectAt xs i)
-  unfolding rectsFit
-  rects-yes xs t i l = rect-yes (rectAt xs i) (every-at (length xs / 4) (λ i. rectFits w h (rectAt xs i)) t i l)
-
-  pub rects-of : (xs : List ℕ) → ((i : ℕ) → i < length xs / 4 → RectIs w h (rectAt xs i)) → rectsFit w h xs ≡ true
-  unfolding rectsFit
-  rects-of xs f = every-of (length xs / 4) (λ i. rectFits w h (rectAt xs i)) (λ i l. rect-of (rectAt xs i) (f i l))

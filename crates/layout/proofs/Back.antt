@@ -5,7 +5,7 @@ use mathlib.Core.List.{List}
 use Prim.Native.Nat.{ℕ}
 use lib.IntN.{ℤ}
 use Rattle.layout.specs.declared.sides.Sides.{Sides}
-use Rattle.layout.specs.declared.rect.Rect.{Rect}
+use Rattle.rects.specs.declared.Rect.{Rect}
 use Rattle.layout.specs.declared.rect.PageRect.{PageRect}
 use Rattle.layout.specs.declared.page.Levelled.{Levelled}
 use Rattle.layout.specs.declared.page.PagePlace.{PagePlace}

@@ -11,14 +11,15 @@ use borrow.Author.Tests.{ne-eqb}
 use Rattle.questions.specs.Questions.{firstMissed}
 use Rattle.questions.proofs.FirstMissed.{all-yes}
 use Rattle.layout.specs.declared.sides.Sides.{Sides}
-use Rattle.layout.specs.declared.rect.Rect.{Rect}
+use Rattle.rects.specs.declared.Rect.{Rect}
 use Rattle.layout.specs.Sides.{rasterFits}
 use Rattle.layout.specs.Tables.{Sheared, tablesLong}
 use Rattle.layout.specs.Level.{levelled}
 use Rattle.layout.specs.Steps.{Ready}
 use Rattle.layout.specs.Calls.{levelQuestions, mapQuestions, LevelGray}
 use Rattle.layout.proofs.Every.{and-parts}
-use Rattle.layout.proofs.Answers.{SidesAre, RectIs, sides-yes, sheared-yes, raster-yes, rect-yes}
+use Rattle.layout.proofs.Answers.{SidesAre, sides-yes, sheared-yes, raster-yes}
+use Rattle.rects.proofs.Questions.{Inside, inside-says}
 
 -- a number that is not 0 chooses what was there
 pub kept-if-refused : {A : Type 0} (q : ℕ) (answer was : A) → (q ≡ 0 → ⊥) → was ≡ cond (eqb q 0) answer was
@@ -38,7 +39,7 @@ module _ (sides : Sides) (shear shear-x : List ℤ) where
   pub level-refused : (gray out : List ℕ) (q : ℕ) → q ≡ firstMissed (levelQuestions sides gray shear shear-x (length out)) → (q ≡ 0 → ⊥) → LevelGray sides gray shear shear-x out out q
   level-refused gray out q e h = record { is-number = e; raster = kept-if-refused q (levelled sides gray shear shear-x) out h }
 
-  pub mapped-yes : (r : Rect) → firstMissed (mapQuestions sides shear shear-x r) ≡ 0 → SidesAre sides × (Sheared sides shear shear-x × RectIs (sides .w) (sides .h) r)
+  pub mapped-yes : (r : Rect) → firstMissed (mapQuestions sides shear shear-x r) ≡ 0 → SidesAre sides × (Sheared sides shear shear-x × Inside (sides .w) (sides .h) r)
   mapped-yes r h =
       let yes = all-yes (mapQuestions sides shear shear-x r) tt h in
-      (sides-yes sides (yes .0), (sheared-yes sides shear shear-x (yes .0) (yes .1 .0) (yes .1 .1 .0), rect-yes (sides .w) (sides .h) r (yes .1 .1 .1 .0)))
+      (sides-yes sides (yes .0), (sheared-yes sides shear shear-x (yes .0) (yes .1 .0) (yes .1 .1 .0), inside-says (sides .w) (sides .h) r (yes .1 .1 .1 .0)))

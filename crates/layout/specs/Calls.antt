@@ -8,7 +8,7 @@ use lib.IntN.{ℤ}
 use lib.ListN.{length}
 use Rattle.questions.specs.Questions.{Question, firstMissed}
 use Rattle.layout.specs.declared.sides.Sides.{Sides}
-use Rattle.layout.specs.declared.rect.Rect.{Rect}
+use Rattle.rects.specs.declared.Rect.{Rect}
 use Rattle.layout.specs.declared.page.Levelled.{Levelled}
 use Rattle.layout.specs.declared.calls.Mapped.{Mapped}
 use Rattle.layout.specs.declared.calls.Mapped.the-variants.{Place, Refused}
@@ -16,7 +16,7 @@ use Rattle.layout.specs.declared.calls.MappedRect.{MappedRect}
 use Rattle.layout.specs.declared.calls.MappedRect.the-variants.{Area, RefusedArea}
 use Rattle.layout.specs.Sides.{sidesFit, rasterFits}
 use Rattle.layout.specs.Tables.{tablesLong, tablesFit}
-use Rattle.layout.specs.Rects.{rectFits}
+use Rattle.rects.specs.Rects.{inside}
 use Rattle.layout.specs.Level.{levelled}
 use Rattle.layout.specs.ToPage.{toPage, rectToPage}
 
@@ -40,7 +40,7 @@ mapQuestions sides shear shear-x r =
     (1, sidesFit sides)
     ∷ (3, tablesLong sides shear shear-x)
     ∷ (4, tablesFit sides shear shear-x)
-    ∷ (6, rectFits (sides .w) (sides .h) r)
+    ∷ (6, inside (sides .w) (sides .h) r)
     ∷ []
 
 -- A single place counts as a rectangle of one pixel.

@@ -2,7 +2,6 @@
 pub mod Raster
 pub mod Sides
 pub mod Tables
-pub mod Rects
 pub mod Level
 pub mod Steps
 pub mod ToPage

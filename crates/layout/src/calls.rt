@@ -7,10 +7,10 @@ use crate::page;
 use crate::page::Levelled;
 use crate::page::PagePlace;
 use crate::rect::PageRect;
-use crate::rect::Rect;
 use crate::sides;
 use crate::sides::Sides;
 use crate::tables;
+use rects::Rect;
 
 // What `to_page` answers: a place, or the number of the first missed question.
 pub enum Mapped {
@@ -70,7 +70,7 @@ pub fn map_question(sides: Sides, shear: &[i32], shear_x: &[i32], r: Rect) -> u3
     if !tables::tables_fit(sides, shear, shear_x) {
         return 4;
     }
-    if !r.fits(sides.w, sides.h) {
+    if !r.is_inside(sides.w, sides.h) {
         return 6;
     }
     0

@@ -6,9 +6,9 @@ ghost use Rattle.layout.specs.Tables.{Sheared};
 ghost use Rattle.layout.specs.ToPage as To;
 ghost use Rattle.layout.specs.ToPage.{toPage, rectToPage};
 use crate::rect::PageRect;
-use crate::rect::Rect;
 use crate::sides::Sides;
 use crate::tables;
+use rects::Rect;
 
 // A place of the levelled picture: column and row.
 pub struct Levelled(pub u32, pub u32);

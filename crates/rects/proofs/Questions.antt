@@ -9,14 +9,8 @@ use lib.ListN.{length}
 use borrow.Author.Tests.{leb-true, ltb-true, eqb-true}
 use Rattle.lists.proofs.Every.{and-first, and-second, every-at}
 use Rattle.rects.specs.declared.Rect.{Rect}
+pub use Rattle.rects.specs.Rects.{Inside}
 use Rattle.rects.specs.Rects.{count, rectAt, inside, countFits, allInside}
-
--- ordered, and inside w columns and h rows
-pub record Inside (w h : ℕ) (r : Rect) : Type 0 where
-  pub wide : r .x0 ≤ r .x1
-  pub high : r .y0 ≤ r .y1
-  pub right : r .x1 < w
-  pub bottom : r .y1 < h
 
 pub inside-says : (w h : ℕ) (r : Rect) → inside w h r ≡ true → Inside w h r
 inside-says w h r t =

@@ -37,14 +37,14 @@ tables-fit-requires c κs = let s = sides-yes (c .before .before .before .before
 returns-3 : tie.Need-returns-3
 returns-3 c = simp (one (c .before .before .before .before), three (c .before .before), sym (c .before .tables-fit .ensures) ∙ not-true _ (c .if3 .taken))
 
-fits-requires : tie.Need-fits-requires
-fits-requires c κs = search needs
+is-inside-requires : tie.Need-is-inside-requires
+is-inside-requires c κs = search needs
 
 returns-4 : tie.Need-returns-4
-returns-4 c = simp (one (c .before .before .before .before .before .before), three (c .before .before .before .before), four (c .before .before), sym (c .before .fits2 .ensures) ∙ not-true _ (c .if4 .taken))
+returns-4 c = simp (one (c .before .before .before .before .before .before), three (c .before .before .before .before), four (c .before .before), sym (c .before .is-inside .ensures) ∙ not-true _ (c .if4 .taken))
 
 returns-5 : tie.Need-returns-5
-returns-5 c = simp (one (c .before .before .before .before .before .before), three (c .before .before .before .before), four (c .before .before), sym (c .before .fits2 .ensures) ∙ not-false _ (c .if4 .left))
+returns-5 c = simp (one (c .before .before .before .before .before .before), three (c .before .before .before .before), four (c .before .before), sym (c .before .is-inside .ensures) ∙ not-false _ (c .if4 .left))
 
 pub map-question-spec : {M : Type 1} → statement M
 map-question-spec =
@@ -56,6 +56,6 @@ map-question-spec =
     returns-2
     tables-fit-requires
     returns-3
-    fits-requires
+    is-inside-requires
     returns-4
     returns-5)

@@ -22,7 +22,7 @@ returns c =
     record { is-number = c .before .map-question .ensures; values = kept-if-refused (c .before .map-question .result) (values (rectToPage (a .sides) (a .shear .now) (a .shear-x .now) (a .r))) [] (c .if1 .taken) }
 
 rect-to-page-requires : tie.Need-rect-to-page-requires
-rect-to-page-requires c κs = let a = c .before .before .args in let yes = mapped-yes (a .sides) (a .shear .now) (a .shear-x .now) (a .r) (sym (c .before .map-question .ensures) ∙ c .if1 .left) in (yes .1 .0, ((yes .0 .pw-some, yes .0 .ph-some), ((omega (arith, yes .1 .1 .across, yes .1 .1 .column), omega (arith, yes .1 .1 .down, yes .1 .1 .row)), (yes .1 .1 .column, yes .1 .1 .row))))
+rect-to-page-requires c κs = let a = c .before .before .args in let yes = mapped-yes (a .sides) (a .shear .now) (a .shear-x .now) (a .r) (sym (c .before .map-question .ensures) ∙ c .if1 .left) in (yes .1 .0, ((yes .0 .pw-some, yes .0 .ph-some), ((omega (arith, yes .1 .1 .wide, yes .1 .1 .right), omega (arith, yes .1 .1 .high, yes .1 .1 .bottom)), (yes .1 .1 .right, yes .1 .1 .bottom))))
 
 returns-2 : tie.Need-returns-2
 returns-2 c = record { is-number = sym (c .before .if1 .left) ∙ c .before .before .map-question .ensures; values = ap values (c .rect-to-page .ensures) }

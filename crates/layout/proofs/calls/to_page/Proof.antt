@@ -22,7 +22,7 @@ returns c =
     record { is-number = c .before .map-question .ensures; values = kept-if-refused (c .before .map-question .result) (values (toPage (a .sides) (a .shear .now) (a .shear-x .now) (a .p))) [] (c .if1 .taken) }
 
 to-page-requires : tie.Need-to-page-requires
-to-page-requires c κs = let a = c .before .before .args in let yes = mapped-yes (a .sides) (a .shear .now) (a .shear-x .now) (onePixel (a .p)) (sym (c .before .map-question .ensures) ∙ c .if1 .left) in (yes .1 .0, (yes .0 .pw-some, (yes .1 .1 .column, yes .1 .1 .row)))
+to-page-requires c κs = let a = c .before .before .args in let yes = mapped-yes (a .sides) (a .shear .now) (a .shear-x .now) (onePixel (a .p)) (sym (c .before .map-question .ensures) ∙ c .if1 .left) in (yes .1 .0, (yes .0 .pw-some, (yes .1 .1 .right, yes .1 .1 .bottom)))
 
 returns-2 : tie.Need-returns-2
 returns-2 c = record { is-number = sym (c .before .if1 .left) ∙ c .before .before .map-question .ensures; values = ap values (c .to-page .ensures) }
