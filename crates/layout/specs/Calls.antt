@@ -57,6 +57,7 @@ abbrev pub mappedValues : Mapped → List ℤ
 mappedValues (Place p) = p .0 ∷ p .1 ∷ []
 mappedValues (Refused n) = []
 
+-- The number of each case: 0 for a rectangle, else the missed question's.
 abbrev pub areaNumber : MappedRect → ℕ
 areaNumber (Area r) = 0
 areaNumber (RefusedArea n) = n

@@ -22,17 +22,19 @@ toPage sides shear shear-x p =
     let X = subℕ (p .0) (entry shear-x (p .1)) in
     record { 0 = X; 1 = subℕ (p .1) (entry shear (nearest (sides .pw) X)) }
 
--- The smaller and the larger of two.
+-- The smaller of two.
 abbrev pub lesser : ℤ → ℤ → ℤ
 lesser a b = cond (leZ a b) a b
 
+-- The larger of two.
 abbrev pub greater : ℤ → ℤ → ℤ
 greater a b = cond (leZ a b) b a
 
--- The least and the greatest of four.
+-- The least of four.
 abbrev pub least : ℤ → ℤ → ℤ → ℤ → ℤ
 least a b c d = lesser (lesser a b) (lesser c d)
 
+-- The greatest of four.
 abbrev pub greatest : ℤ → ℤ → ℤ → ℤ → ℤ
 greatest a b c d = greater (greater a b) (greater c d)
 

@@ -3,6 +3,7 @@ ghost use mathlib.Core.Path.{_≡_};
 ghost use Prim.Native.Nat.{_≤_};
 ghost use Rattle.layout.specs.Sides.{sideFits, levelledSidesFit, sidesFit, rasterFits};
 
+// The page is pw by ph, and the levelled picture w by h.
 pub struct Sides {
     pub pw: usize,
     pub ph: usize,
