@@ -39,12 +39,7 @@ pub extern "C" fn lanegravel_level_gray(
 ) -> u32
     ensures { λ r. ⌜ LevelGray (record { pw = pw; ph = ph; w = w; h = h }) (now (gray .entry)) (now (shear .entry)) (now («shear_x» .entry)) (now (out .entry)) (now (out .exit)) r ⌝ }
 {
-    let sides = Sides {
-        pw: pw,
-        ph: ph,
-        w: w,
-        h: h,
-    };
+    let sides = Sides { pw, ph, w, h };
     layout::calls::level_gray(sides, gray, shear, shear_x, out)
 }
 
@@ -61,12 +56,7 @@ pub extern "C" fn lanegravel_to_page(
 ) -> MappedPlace
     ensures { λ r. ⌜ PlaceMapped (record { pw = pw; ph = ph; w = w; h = h }) (now (shear .entry)) (now («shear_x» .entry)) (record { 0 = x; 1 = y }) r ⌝ }
 {
-    let sides = Sides {
-        pw: pw,
-        ph: ph,
-        w: w,
-        h: h,
-    };
+    let sides = Sides { pw, ph, w, h };
     let answer = layout::calls::to_page(sides, shear, shear_x, Levelled(x, y));
     match answer {
         Mapped::Place(p) => MappedPlace {
@@ -74,11 +64,7 @@ pub extern "C" fn lanegravel_to_page(
             x: p.0,
             y: p.1,
         },
-        Mapped::Refused(number) => MappedPlace {
-            number: number,
-            x: 0,
-            y: 0,
-        },
+        Mapped::Refused(number) => MappedPlace { number, x: 0, y: 0 },
     }
 }
 
@@ -97,18 +83,8 @@ pub extern "C" fn lanegravel_rect_to_page(
 ) -> MappedArea
     ensures { λ r. ⌜ AreaMapped (record { pw = pw; ph = ph; w = w; h = h }) (now (shear .entry)) (now («shear_x» .entry)) (record { x0 = x0; y0 = y0; x1 = x1; y1 = y1 }) r ⌝ }
 {
-    let sides = Sides {
-        pw: pw,
-        ph: ph,
-        w: w,
-        h: h,
-    };
-    let r = Rect {
-        x0: x0,
-        y0: y0,
-        x1: x1,
-        y1: y1,
-    };
+    let sides = Sides { pw, ph, w, h };
+    let r = Rect { x0, y0, x1, y1 };
     let answer = layout::calls::rect_to_page(sides, shear, shear_x, r);
     match answer {
         MappedRect::Area(p) => MappedArea {
@@ -119,7 +95,7 @@ pub extern "C" fn lanegravel_rect_to_page(
             y1: p.y1,
         },
         MappedRect::RefusedArea(number) => MappedArea {
-            number: number,
+            number,
             x0: 0,
             y0: 0,
             x1: 0,
