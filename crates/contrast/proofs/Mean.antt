@@ -23,6 +23,11 @@ places-fit : (raster : List ℕ) (w h : ℕ) (r : Rect) (horizontal : Bool) → 
 places-fit raster w h r true on = (omega arith, omega (arith, on .narrow, on .inside .wide, on .inside .right))
 places-fit raster w h r false on = (omega arith, omega (arith, on .low, on .inside .high, on .inside .bottom))
 
+-- the two facts of a contrast
+promised : (raster : List ℕ) (w h : ℕ) (r : Rect) (horizontal : Bool) (x : Float) (sum count : ℕ) → x ≡ contrastOf raster w h r horizontal → sum ≡ total (darkest raster w r horizontal) → count ≡ length (darkest raster w r horizontal)
+    → Within 45 x (median (samples raster w h r horizontal) * count) sum count → Contrasted raster w h r horizontal x
+promised raster w h r horizontal x sum count value es ec near = record { value = value; near = rw (es, ec) at near }
+
 pub contrasted : (raster : List ℕ) (w h : ℕ) (r : Rect) (horizontal : Bool) (level sum along : ℕ) → OnPicture raster w h r → level ≤ 255 → level ≡ median (samples raster w h r horizontal)
     → sum ≡ total (darkest raster w r horizontal) → along ≡ placesAlong r horizontal → Contrasted raster w h r horizontal (sub binary64 (whole level) (div binary64 (whole sum) (whole along)))
 unfolding contrastOf
@@ -34,7 +39,8 @@ contrasted raster w h r horizontal level sum along on bright el es ea =
     let exact : pairwiseSum (map whole dark) ≡ whole (total dark) = sum-bytes dark bytes (omega arith) in
     let most : total dark ≤ 255 * length dark = le-trans (total-le 255 dark bytes) (le-of-eq (mul-comm (length dark) 255)) in
     let many : along ≡ length dark = ea ∙ sym number in
-    rw (es, many) (record {
-      value = ap₂ (λ (x y : Float). sub binary64 x (div binary64 y (whole (length dark)))) (ap whole el) (sym exact);
-      near = subst (λ (m : ℕ). Within 45 (sub binary64 (whole level) (div binary64 (whole (total dark)) (whole (length dark)))) (m * length dark) (total dark) (length dark)) el (mean-within level (total dark) (length dark) bright most (omega arith) (omega arith));
-    })
+    let x = sub binary64 (whole level) (div binary64 (whole sum) (whole along)) in
+    promised raster w h r horizontal x sum along
+    (ap₂ (λ (s n : ℕ). sub binary64 (whole level) (div binary64 (whole s) (whole n))) es many ∙ ap₂ (λ (l y : Float). sub binary64 l (div binary64 y (whole (length dark)))) (ap whole el) (sym exact))
+    es many
+    (subst (λ (m : ℕ). Within 45 x (m * along) sum along) el (mean-within level sum along bright (omega arith) (omega arith) (omega arith)))
