@@ -31,7 +31,11 @@ pub fn pair_sets(random: &mut Random, count: u64) -> Tally {
         let n = random.below(24) as usize;
         // now and then an index past the last, and a number without its partner
         let top = n as u64 + u64::from(random.below(16) == 0);
-        let numbers = if top == 0 { 0 } else { random.below(2 * n as u64 + 2) };
+        let numbers = if top == 0 {
+            0
+        } else {
+            random.below(2 * n as u64 + 2)
+        };
         let pairs: Vec<u32> = (0..numbers).map(|_| random.below(top) as u32).collect();
         let whole = pairs.iter().all(|&i| (i as usize) < n);
         let sets = flood(n, |i, j| {
@@ -57,7 +61,11 @@ pub fn members_of(random: &mut Random, count: u64) -> Tally {
             .map(|_| random.below(10) as u32)
             .collect();
         let (count, set) = (random.below(8) as usize, random.below(8) as usize);
-        let start = if set == 0 { 0 } else { *ends.get(set - 1).unwrap_or(&0) } as usize;
+        let start = if set == 0 {
+            0
+        } else {
+            *ends.get(set - 1).unwrap_or(&0)
+        } as usize;
         let part = match ends.get(set) {
             Some(&end) if set < count => members.get(start..end as usize).unwrap_or(&[]),
             _ => &[],
@@ -147,7 +155,13 @@ fn listed(n: usize, sets: &[Vec<u32>], lists: &SetLists, whole: bool) -> (Answer
     let mut after = lists.clone();
     let lengths = [&lists.parents, &lists.members, &lists.ends, &lists.work];
     if !whole || lengths.iter().any(|list| list.len() < n) {
-        return (Answer { number: 1, count: 0 }, after);
+        return (
+            Answer {
+                number: 1,
+                count: 0,
+            },
+            after,
+        );
     }
     let mut at = 0;
     for (k, set) in sets.iter().enumerate() {

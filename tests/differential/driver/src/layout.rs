@@ -1,10 +1,11 @@
 //! Levelling and the way back to the page: `level_gray`, `to_page`, `rect_to_page`. Pages are small,
 //! their shear tables at and around the limits, and every other page misses a question or several.
 
-use pagetriage::pixel::layout::{Layout, Rect};
+use pagetriage::pixel::layout::Rect;
 
 use crate::ffi_layout::{self as ffi, Page};
 use crate::random::Random;
+use crate::rust_layout::layout;
 use crate::tally::Tally;
 
 const LARGEST_SIDE: usize = 8192;
@@ -77,30 +78,6 @@ pub fn rect_to_page(random: &mut Random, count: u64) -> Tally {
         );
     }
     tally
-}
-
-/// The Rust's layout of a page, by its public fields.
-fn layout(page: &Page) -> Layout {
-    Layout {
-        width: page.width,
-        height: page.height,
-        page_width: page.page_width,
-        page_height: page.page_height,
-        skew_deg: 0.0,
-        shear: page.shear.clone(),
-        shear_x: page.shear_x.clone(),
-        xheight: 1.0,
-        glyph_count: 0,
-        glyph_ink_pixels: 0,
-        ink_pixels: 0,
-        lines: Vec::new(),
-        glyphs: Vec::new(),
-        ink: Vec::new(),
-        blocks: Vec::new(),
-        rules: Vec::new(),
-        graphics: Vec::new(),
-        columns: Vec::new(),
-    }
 }
 
 /// The number of the first missed question of document 01, said here in plain Rust.

@@ -11,6 +11,7 @@ mod layout;
 mod params;
 mod random;
 mod replay;
+mod rust_layout;
 mod tally;
 mod values;
 
