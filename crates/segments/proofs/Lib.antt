@@ -1,0 +1,10 @@
+-- Why the rulings are right: laws that belong to no one function.
+pub mod Touching
+pub mod Accepted
+pub mod Runs
+pub mod Parts
+pub mod Rectangles
+pub mod Order
+pub mod Demand
+pub mod Core
+pub mod Call

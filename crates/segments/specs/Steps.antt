@@ -1,0 +1,126 @@
+-- What the functions under `segments` say to each other; none of it is needed to read the call's contract.
+use Prim.Native.Nat.{ℕ, _+_, _*_, _^_, _≤_, _<_}
+use mathlib.Core.Path.{_≡_}
+use mathlib.Core.Bool.{Bool, cond}
+use mathlib.Core.List.{List, map}
+use lib.Ieee.{Float}
+use lib.IntN.{ℤ, pos, natAbs}
+use lib.ListN.{length, getD}
+use lib.Seq.{sets}
+use Rattle.lists.specs.Lists.{In, below, concat, written}
+use Rattle.sets.specs.Listing.{membersOf, endsFrom}
+use Rattle.order.specs.Order.{sortedIndexes}
+use Rattle.rects.specs.declared.Rect.{Rect}
+use Rattle.rects.specs.Rects.{count, rectAt}
+use Rattle.rects.proofs.Questions.{Inside}
+use Rattle.segments.specs.Rulings.{keysOf, rectanglesOf, directionsOf, contrastsOf}
+
+-- The ends of a rectangle are in order.
+pub record Ordered (r : Rect) : Type 0 where
+  pub wide : r .x0 ≤ r .x1
+  pub high : r .y0 ≤ r .y1
+
+-- Every rectangle of a list is ordered.
+abbrev pub AllOrdered : List ℕ → Type 0
+AllOrdered rects = (k : ℕ) → k < count rects → Ordered (rectAt rects k)
+
+-- Doubled centre, start and end, taken as if the direction were the given one.
+abbrev pub centreIn : Bool → Rect → ℕ
+centreIn h r = cond h (r .y0 + r .y1) (r .x0 + r .x1)
+
+abbrev pub startIn : Bool → Rect → ℕ
+startIn h r = cond h (r .x0) (r .y0)
+
+abbrev pub endIn : Bool → Rect → ℕ
+endIn h r = cond h (r .x1) (r .y1)
+
+-- Every rectangle of a list lies in a picture of w columns and h rows.
+abbrev pub AllInside : ℕ → ℕ → List ℕ → Type 0
+AllInside w h rects = (k : ℕ) → k < count rects → Inside w h (rectAt rects k)
+
+-- Each of the first n parts of a listing has a member, and its members are pieces.
+pub record Parts (pieces ms es : List ℕ) (n : ℕ) : Type 0 where
+  pub some : (k : ℕ) → k < n → 0 < length (membersOf ms es n k)
+  pub known : (k i : ℕ) → k < n → In (membersOf ms es n k) i → i < count pieces
+
+-- The first n parts of a listing.
+abbrev pub partsOf : List ℕ → List ℕ → ℕ → List (List ℕ)
+partsOf members ends n = map (membersOf members ends n) (below n)
+
+-- The parts of a listing in another order.
+abbrev pub inOrder : List ℕ → List ℕ → ℕ → List ℕ → List (List ℕ)
+inOrder members ends n order = map (λ k. membersOf members ends n (getD order k 0)) (below n)
+
+-- What copying a list to a place of another leaves, and where it ends.
+pub record Copied (from to : List ℕ) (at : ℕ) (to′ : List ℕ) (r : ℕ) : Type 0 where
+  pub content : to′ ≡ sets to at from
+  pub end : r ≡ at + length from
+
+-- Some sets were strung together from the front of two lists.
+pub record Strung (ss : List (List ℕ)) (ms es ms′ es′ : List ℕ) : Type 0 where
+  pub members : ms′ ≡ written (concat ss) ms
+  pub ends : es′ ≡ written (endsFrom 0 ss) es
+
+-- The lists that sets are strung into have room for them, and the ends fit 32 bits.
+pub record RoomForSets (ss : List (List ℕ)) (ms es : List ℕ) : Type 0 where
+  pub members : length (concat ss) ≤ length ms
+  pub ends : length ss ≤ length es
+  pub small : length (concat ss) < 2 ^ 32
+
+-- The rulings of some sets were written from the front of three lists.
+pub record Described (raster : List ℕ) (w h : ℕ) (pieces : List ℕ) (ss : List (List ℕ)) (rs ds : List ℕ) (cs : List Float) (rs′ ds′ : List ℕ) (cs′ : List Float) : Type 0 where
+  pub rects : rs′ ≡ written (rectanglesOf pieces ss) rs
+  pub directions : ds′ ≡ written (directionsOf pieces ss) ds
+  pub contrasts : cs′ ≡ written (contrastsOf raster w h pieces ss) cs
+
+-- Three lists have room for n rulings.
+pub record RoomForRulings (n : ℕ) (rs ds : List ℕ) (cs : List Float) : Type 0 where
+  pub rects : 4 * n ≤ length rs
+  pub directions : n ≤ length ds
+  pub contrasts : n ≤ length cs
+
+-- A picture with its pieces.
+pub record Picture (raster : List ℕ) (w h : ℕ) (pieces : List ℕ) : Type 0 where
+  pub full : length raster ≡ w * h
+  pub narrow : w ≤ 8192
+  pub low : h ≤ 8192
+  pub inside : AllInside w h pieces
+
+-- A limit is a whole number of 32 bits.
+pub record Whole (z : ℤ) : Type 0 where
+  pub is : z ≡ pos (natAbs z)
+  pub small : natAbs z < 2 ^ 32
+
+-- The sets were strung together from the front of two lists; they have no more members than there are pieces, and are no more.
+pub record SetsListed (ss : List (List ℕ)) (n : ℕ) (ls le ls′ le′ : List ℕ) (r : ℕ) : Type 0 where
+  pub count : r ≡ length ss
+  pub strung : Strung ss ls le ls′ le′
+  pub within : length (concat ss) ≤ n
+  pub few : length ss ≤ n
+
+-- The numbers of the first n parts of a listing were written in the order of their rectangles.
+pub record SetsOrdered (pieces ls le : List ℕ) (n : ℕ) (o o′ : List ℕ) : Type 0 where
+  pub content : o′ ≡ written (sortedIndexes (keysOf pieces (partsOf ls le n))) o
+
+-- Five lists have an entry for each of n pieces.
+pub record WorkRoom (n : ℕ) (ps ls le ws ks : List ℕ) : Type 0 where
+  pub parents : n ≤ length ps
+  pub listed : n ≤ length ls
+  pub listed-ends : n ≤ length le
+  pub work : n ≤ length ws
+  pub keys : n ≤ length ks
+
+-- What the questions give: a picture with at most 4,096 pieces, and room in every list.
+pub record Ready (raster : List ℕ) (w h : ℕ) (pieces : List ℕ) (rs ds : List ℕ) (cs : List Float) (ms es ps ls le ws ks : List ℕ) : Type 0 where
+  pub picture : Picture raster w h pieces
+  pub few : count pieces ≤ 4096
+  pub rulings : RoomForRulings (count pieces) rs ds cs
+  pub members : count pieces ≤ length ms
+  pub ends : count pieces ≤ length es
+  pub work : WorkRoom (count pieces) ps ls le ws ks
+
+-- The rulings of some sets were written, and the sets with them.
+pub record Made (raster : List ℕ) (w h : ℕ) (pieces : List ℕ) (ss : List (List ℕ)) (rs ds : List ℕ) (cs : List Float) (ms es rs′ ds′ : List ℕ) (cs′ : List Float) (ms′ es′ : List ℕ) (r : ℕ) : Type 0 where
+  pub count : r ≡ length ss
+  pub described : Described raster w h pieces ss rs ds cs rs′ ds′ cs′
+  pub strung : Strung ss ms es ms′ es′
