@@ -16,11 +16,12 @@ use Rattle.questions.specs.Questions.{firstMissed}
 use Rattle.questions.proofs.FirstMissed.{AllYes, all-yes}
 use Rattle.rects.specs.Rects.{count}
 use Rattle.rects.proofs.Questions.{count-says, all-inside-says}
+use Rattle.layout.specs.Sides.{levelledSidesFit}
 use Rattle.params.specs.declared.settings.RulingsParams.{RulingsParams}
 use Rattle.params.proofs.Bounds.{xheight-says}
 use Rattle.params.proofs.Passed.{floats-say, lengths-say}
 use Rattle.params.proofs.Limits.{limit-up-to}
-use Rattle.segments.specs.Contract.{levelledSidesFit, answersFit, workFits, roomFits, segmentsQuestions}
+use Rattle.segments.specs.Contract.{answersFit, workFits, roomFits, segmentsQuestions}
 use Rattle.segments.specs.Steps.{Whole, WorkRoom, Ready}
 
 pub sides-say : (w h : ℕ) → levelledSidesFit w h ≡ true → (w ≤ 8192) × (h ≤ 8192)

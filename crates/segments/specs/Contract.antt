@@ -14,15 +14,12 @@ use Rattle.sets.specs.Listing.{endsFrom}
 use Rattle.questions.specs.Questions.{Question, firstMissed}
 use Rattle.rects.specs.Rects.{count, rectAt, countFits, allInside}
 use Rattle.rects.specs.Around.{Smallest, around}
+use Rattle.layout.specs.Sides.{levelledSidesFit}
 use Rattle.params.specs.declared.settings.RulingsParams.{RulingsParams}
 use Rattle.params.specs.Scan.{xheightInRange}
 use Rattle.params.specs.Settings.{settingsQuestions}
 use Rattle.segments.specs.Pieces.{horizontal, Touch}
 use Rattle.segments.specs.Rulings.{rulingSets, directionOf, rectanglesOf, directionsOf, contrastsOf, StandsBefore}
-
--- Question 1 where a call is given the levelled sides alone: both are 1 to 8,192.
-abbrev pub levelledSidesFit : ℕ → ℕ → Bool
-levelledSidesFit w h = leb 1 w && leb w 8192 && (leb 1 h && leb h 8192)
 
 -- Question 14 of the lists that are written: the levelled raster has one byte a place, and there is room for as many rulings as pieces.
 abbrev pub answersFit : ℕ → ℕ → ℕ → ℕ → ℕ → ℕ → ℕ → ℕ → ℕ → Bool

@@ -4,21 +4,14 @@ ghost use Prim.Native.Nat.{_*_, _≤_, _<_, _^_};
 ghost use lib.ListN.{length};
 ghost use Rattle.questions.specs.Questions.{firstMissed};
 ghost use Rattle.rects.specs.Rects.{count};
-ghost use Rattle.segments.specs.Contract.{levelledSidesFit, answersFit, workFits, roomFits, inputQuestions, segmentsQuestions};
+ghost use Rattle.segments.specs.Contract.{answersFit, workFits, roomFits, inputQuestions, segmentsQuestions};
 use params::settings::RulingsParams;
-
-// Question 1 of the levelled sides.
-fn sides_fit(w: usize, h: usize) -> bool
-    ensures { λ t. ⌜ t ≡ levelledSidesFit w h ⌝ }
-{
-    (1 <= w) & (w <= 8192) & ((1 <= h) & (h <= 8192))
-}
 
 // Questions 1, 2, 5, 6, 7 to 11 and 13.
 fn missed_by_input(w: usize, h: usize, xheight: f64, pieces: &[u32], p: RulingsParams) -> u32
     ensures { λ q. ⌜ q ≡ firstMissed (inputQuestions w h xheight (now (pieces .entry)) p) ⌝ }
 {
-    let sides = sides_fit(w, h);
+    let sides = layout::sides::levelled_sides_fit(w, h);
     let scan = params::scan::missed_by_xheight(xheight);
     let counted = rects::count_fits(pieces, 4096);
     let inside = rects::all_inside(pieces, w, h);

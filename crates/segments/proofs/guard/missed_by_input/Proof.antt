@@ -10,7 +10,7 @@ use Rattle.questions.specs.Questions.{Question, firstMissed}
 use Rattle.params.specs.Scan.{xheightInRange}
 use Rattle.params.specs.Settings.{settingsQuestions}
 use Rattle.rects.specs.Rects.{countFits, allInside}
-use Rattle.segments.specs.Contract.{levelledSidesFit}
+use Rattle.layout.specs.Sides.{levelledSidesFit}
 use Rattle.segments.proofs.guard.missed_by_input.Statement.{statement}
 use Rattle.segments.proofs.guard.missed_by_input.Tie as tie
 
@@ -42,8 +42,8 @@ module _ (a b d e : Bool) (rest : List Question) where
   at-rest : {s q : ℕ} → a ≡ true → s ≡ cond b 0 2 → s ≡ 0 → d ≡ true → e ≡ true → q ≡ firstMissed rest → q ≡ firstMissed asked
   at-rest h k z f g r = let t = passed-2 b k z in r ∙ simp (h, t, f, g)
 
-sides-fit-requires : tie.Need-sides-fit-requires
-sides-fit-requires c κs = search needs
+levelled-sides-fit-requires : tie.Need-levelled-sides-fit-requires
+levelled-sides-fit-requires c κs = search needs
 
 missed-by-xheight-requires : tie.Need-missed-by-xheight-requires
 missed-by-xheight-requires c κs = search needs
@@ -61,39 +61,39 @@ returns : tie.Need-returns
 returns c =
     let a = c .before .before .before .before .before .before .before .args in
     at-1 (levelledSidesFit (a .w) (a .h)) (xheightInRange (a .xheight)) (countFits 4096 (a .pieces .now)) (allInside (a .w) (a .h) (a .pieces .now)) (settingsQuestions (a .p))
-    (sym (c .before .before .before .before .before .sides-fit .ensures) ∙ not-true (c .before .before .before .before .before .sides-fit .result) (c .if1 .taken))
+    (sym (c .before .before .before .before .before .levelled-sides-fit .ensures) ∙ not-true (c .before .before .before .before .before .levelled-sides-fit .result) (c .if1 .taken))
 
 returns-2 : tie.Need-returns-2
 returns-2 c =
     let a = c .before .before .before .before .before .before .before .before .args in
     at-2 (levelledSidesFit (a .w) (a .h)) (xheightInRange (a .xheight)) (countFits 4096 (a .pieces .now)) (allInside (a .w) (a .h) (a .pieces .now)) (settingsQuestions (a .p))
-    (sym (c .before .before .before .before .before .before .sides-fit .ensures) ∙ not-false (c .before .before .before .before .before .before .sides-fit .result) (c .before .if1 .left)) (c .before .before .before .before .before .missed-by-xheight .ensures) (c .if2 .taken)
+    (sym (c .before .before .before .before .before .before .levelled-sides-fit .ensures) ∙ not-false (c .before .before .before .before .before .before .levelled-sides-fit .result) (c .before .if1 .left)) (c .before .before .before .before .before .missed-by-xheight .ensures) (c .if2 .taken)
 
 returns-3 : tie.Need-returns-3
 returns-3 c =
     let a = c .before .before .before .before .before .before .before .before .before .args in
     at-5 (levelledSidesFit (a .w) (a .h)) (xheightInRange (a .xheight)) (countFits 4096 (a .pieces .now)) (allInside (a .w) (a .h) (a .pieces .now)) (settingsQuestions (a .p))
-    (sym (c .before .before .before .before .before .before .before .sides-fit .ensures) ∙ not-false (c .before .before .before .before .before .before .before .sides-fit .result) (c .before .before .if1 .left)) (c .before .before .before .before .before .before .missed-by-xheight .ensures) (c .before .if2 .left) (sym (c .before .before .before .before .before .count-fits .ensures) ∙ not-true (c .before .before .before .before .before .count-fits .result) (c .if3 .taken))
+    (sym (c .before .before .before .before .before .before .before .levelled-sides-fit .ensures) ∙ not-false (c .before .before .before .before .before .before .before .levelled-sides-fit .result) (c .before .before .if1 .left)) (c .before .before .before .before .before .before .missed-by-xheight .ensures) (c .before .if2 .left) (sym (c .before .before .before .before .before .count-fits .ensures) ∙ not-true (c .before .before .before .before .before .count-fits .result) (c .if3 .taken))
 
 returns-4 : tie.Need-returns-4
 returns-4 c =
     let a = c .before .before .before .before .before .before .before .before .before .before .args in
     at-6 (levelledSidesFit (a .w) (a .h)) (xheightInRange (a .xheight)) (countFits 4096 (a .pieces .now)) (allInside (a .w) (a .h) (a .pieces .now)) (settingsQuestions (a .p))
-    (sym (c .before .before .before .before .before .before .before .before .sides-fit .ensures) ∙ not-false (c .before .before .before .before .before .before .before .before .sides-fit .result) (c .before .before .before .if1 .left)) (c .before .before .before .before .before .before .before .missed-by-xheight .ensures) (c .before .before .if2 .left) (sym (c .before .before .before .before .before .before .count-fits .ensures) ∙ not-false (c .before .before .before .before .before .before .count-fits .result) (c .before .if3 .left))
+    (sym (c .before .before .before .before .before .before .before .before .levelled-sides-fit .ensures) ∙ not-false (c .before .before .before .before .before .before .before .before .levelled-sides-fit .result) (c .before .before .before .if1 .left)) (c .before .before .before .before .before .before .before .missed-by-xheight .ensures) (c .before .before .if2 .left) (sym (c .before .before .before .before .before .before .count-fits .ensures) ∙ not-false (c .before .before .before .before .before .before .count-fits .result) (c .before .if3 .left))
     (sym (c .before .before .before .before .before .all-inside .ensures) ∙ not-true (c .before .before .before .before .before .all-inside .result) (c .if4 .taken))
 
 returns-5 : tie.Need-returns-5
 returns-5 c =
     let a = c .before .before .before .before .before .before .before .before .before .before .args in
     at-rest (levelledSidesFit (a .w) (a .h)) (xheightInRange (a .xheight)) (countFits 4096 (a .pieces .now)) (allInside (a .w) (a .h) (a .pieces .now)) (settingsQuestions (a .p))
-    (sym (c .before .before .before .before .before .before .before .before .sides-fit .ensures) ∙ not-false (c .before .before .before .before .before .before .before .before .sides-fit .result) (c .before .before .before .if1 .left)) (c .before .before .before .before .before .before .before .missed-by-xheight .ensures) (c .before .before .if2 .left) (sym (c .before .before .before .before .before .before .count-fits .ensures) ∙ not-false (c .before .before .before .before .before .before .count-fits .result) (c .before .if3 .left))
+    (sym (c .before .before .before .before .before .before .before .before .levelled-sides-fit .ensures) ∙ not-false (c .before .before .before .before .before .before .before .before .levelled-sides-fit .result) (c .before .before .before .if1 .left)) (c .before .before .before .before .before .before .before .missed-by-xheight .ensures) (c .before .before .if2 .left) (sym (c .before .before .before .before .before .before .count-fits .ensures) ∙ not-false (c .before .before .before .before .before .before .count-fits .result) (c .before .if3 .left))
     (sym (c .before .before .before .before .before .all-inside .ensures) ∙ not-false (c .before .before .before .before .before .all-inside .result) (c .if4 .left)) (c .before .before .before .before .missed-by-settings .ensures)
 
 pub missed-by-input-spec : {M : Type 1} → statement M
 missed-by-input-spec =
     tie.close
     (tie.spec
-    sides-fit-requires
+    levelled-sides-fit-requires
     missed-by-xheight-requires
     count-fits-requires
     all-inside-requires

@@ -2,6 +2,7 @@
 use mathlib.Core.Path.{_≡_, sym, ap, subst, _∙_}
 use mathlib.Core.List.{List}
 use Prim.Native.Nat.{ℕ, _≤_}
+use native.Mathlib.Nat.{le-of-eq}
 use borrow.Author.Needs.{needs}
 use lib.ListN.{length}
 use Rattle.lists.specs.Lists.{concat, written}
@@ -11,7 +12,7 @@ use Rattle.sets.specs.Joins.{Joins}
 use Rattle.sets.specs.Listing.{Listing, endsFrom}
 use Rattle.sets.specs.Parents.{root}
 use Rattle.sets.proofs.Listings.{joins-closedSets}
-use Rattle.sets.proofs.Sizes.{classes-all, classes-count, classes-within}
+use Rattle.sets.proofs.Sizes.{classes-all, classes-count, classes-total}
 use Rattle.segments.specs.Pieces.{touch, Touch}
 use Rattle.segments.specs.Rulings.{pieceSets}
 use Rattle.segments.specs.Steps.{SetsListed}
@@ -26,7 +27,7 @@ found pieces across gap {q} {ls = ls} {le = le} J L =
     record {
       count = L .count ∙ ap length same;
       strung = record { members = L .members ∙ ap (λ ss. written (concat ss) ls) same; ends = L .ends ∙ ap (λ ss. written (endsFrom 0 ss) le) same };
-      within = subst (λ (ss : List (List ℕ)). length (concat ss) ≤ n) same (classes-within n (root q) (J .roots .fixed));
+      within = subst (λ (ss : List (List ℕ)). length (concat ss) ≤ n) same (le-of-eq (classes-total n (root q) (J .roots .fixed) (J .roots .stays)));
       few = subst (λ (ss : List (List ℕ)). length ss ≤ n) (classes-all n (root q) ∙ same) (classes-count n (root q) n);
     }
 
