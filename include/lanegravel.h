@@ -180,6 +180,40 @@ lanegravel_rect_to_page(size_t page_width, size_t page_height, size_t width, siz
                         const int32_t *shear_x, size_t shear_x_count,
                         uint32_t x0, uint32_t y0, uint32_t x1, uint32_t y1);
 
+/* What lanegravel_segments answers: the number of the first question that is missed, 0 where the
+ * page is accepted, and the number of rulings, 0 on refusal. */
+struct lanegravel_rulings {
+    uint32_t number;
+    size_t count;
+};
+
+/* Joins the rule pieces of a levelled page to rulings. raster is the levelled grey picture of width
+ * by height; a piece is four numbers, x0, y0, x1, y1, both ends inside it. A piece at least as wide
+ * as high is horizontal. Two pieces touch when their directions agree, their doubled centres differ
+ * by at most 2 * round(merge_across_xh * xheight), and larger start - smaller end - 1 is at most
+ * round(merge_gap_xh * xheight). Each closed set of pieces is one ruling. Rulings stand by y0, x0,
+ * y1, x1 of the smallest rectangle around their pieces, then by smallest piece index.
+ *
+ * rects gets four numbers a ruling; directions 0 for horizontal and 1 for vertical, as its pieces
+ * are; contrasts the paper beside it less the mean of the darkest pixels across it; members the
+ * piece indexes of ruling after ruling, ascending in each; ends where the members of each ruling
+ * end. Places past the answers keep their content. The five lists that follow are work lists, of
+ * free content after an accepted call. A call that misses a question writes nothing at all:
+ *   1  width and height 1 to 8,192
+ *   2  xheight finite, above 0, at most 4,096
+ *   5  at most 4,096 pieces, four numbers each
+ *   6  every piece ordered and inside the picture
+ *   7 to 11 and 13  the settings, as lanegravel_validate has them
+ *  14  raster exactly width * height bytes, rects four numbers a piece, every other list one entry */
+struct lanegravel_rulings lanegravel_segments(
+    const uint8_t *raster, size_t raster_count, size_t width, size_t height, double xheight,
+    const uint32_t *pieces, size_t pieces_count, struct lanegravel_rulings_params p,
+    uint32_t *rects, size_t rects_count, uint32_t *directions, size_t directions_count,
+    double *contrasts, size_t contrasts_count, uint32_t *members, size_t members_count,
+    uint32_t *ends, size_t ends_count, uint32_t *parents, size_t parents_count,
+    uint32_t *listed, size_t listed_count, uint32_t *listed_ends, size_t listed_ends_count,
+    uint32_t *work, size_t work_count, uint64_t *keys, size_t keys_count);
+
 #ifdef __cplusplus
 }
 #endif

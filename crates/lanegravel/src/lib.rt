@@ -2,5 +2,6 @@
 // `requires`, so nothing has to be vetted before a call. include/lanegravel.h declares them for C.
 mod floats;
 mod grouping;
+mod joining;
 mod levelling;
 mod settings;

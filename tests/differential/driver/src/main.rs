@@ -5,13 +5,16 @@
 
 mod ffi;
 mod ffi_layout;
+mod ffi_segments;
 mod floats;
 mod grouping;
 mod layout;
 mod params;
+mod pieces;
 mod random;
 mod replay;
 mod rust_layout;
+mod segments;
 mod tally;
 mod values;
 
@@ -93,6 +96,16 @@ const COMPARISONS: &[Comparison] = &[
         name: "rect_to_page",
         count: 400_000,
         run: layout::rect_to_page,
+    },
+    Comparison {
+        name: "segments",
+        count: 200_000,
+        run: segments::segments,
+    },
+    Comparison {
+        name: "segments on forms",
+        count: 300,
+        run: segments::forms,
     },
 ];
 

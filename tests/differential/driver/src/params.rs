@@ -9,7 +9,7 @@ use crate::tally::{Tally, hex_floats};
 use crate::values::any;
 
 /// Settings that miss no question.
-const VALID: RulingsParams = RulingsParams {
+pub const VALID: RulingsParams = RulingsParams {
     merge_across_xh: 0.2,
     merge_gap_xh: 1.0,
     rule_min_contrast: 40.0,
@@ -98,7 +98,7 @@ fn compare(tally: &mut Tally, p: &RulingsParams) {
 }
 
 /// The number of the first missed question of 7 to 11 and 13, from document 01.
-fn first_missed(p: &RulingsParams) -> u32 {
+pub fn first_missed(p: &RulingsParams) -> u32 {
     let mut p = *p;
     let lengths = [
         p.merge_across_xh,
@@ -259,7 +259,7 @@ fn counts(p: &mut RulingsParams) -> [&mut u32; 5] {
 }
 
 /// The same settings for the Rust.
-fn rust(p: &RulingsParams) -> rulings::RulingsParams {
+pub fn rust(p: &RulingsParams) -> rulings::RulingsParams {
     rulings::RulingsParams {
         merge_across_xh: p.merge_across_xh,
         merge_gap_xh: p.merge_gap_xh,

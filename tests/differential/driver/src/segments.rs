@@ -1,0 +1,228 @@
+//! Pieces to rulings: `segments`, against the unchanged Rust to the bit, its sets against a plain
+//! flood fill. Pages are small and of many kinds; every fourth one misses a question or several.
+
+use pagetriage::pixel::layout::{Layout, Rect};
+use pagetriage::pixel::rulings;
+
+use crate::ffi_segments::{self as ffi, Lent, Page};
+use crate::params::{self, VALID};
+use crate::pieces;
+use crate::random::Random;
+use crate::tally::{Tally, bits};
+
+const LARGEST_SIDE: usize = 8192;
+const MOST_PIECES: usize = 4096;
+
+/// Small pages, and now and then one with as many pieces as there may be.
+pub fn segments(random: &mut Random, count: u64) -> Tally {
+    let mut tally = Tally::default();
+    for case in 0..count {
+        let mut page = if case % 20_000 == 19_999 {
+            pieces::crowded(random, MOST_PIECES)
+        } else {
+            pieces::small(random)
+        };
+        if case % 4 == 3 {
+            for _ in 0..=random.below(3) {
+                spoil(random, &mut page);
+            }
+        }
+        compare(random, &mut tally, &page);
+    }
+    tally
+}
+
+/// Pages of 600 by 800 with ruled tables whose rules are broken, shifted and doubled.
+pub fn forms(random: &mut Random, count: u64) -> Tally {
+    let mut tally = Tally::default();
+    for _ in 0..count {
+        let page = pieces::form(random);
+        compare(random, &mut tally, &page);
+    }
+    tally
+}
+
+fn compare(random: &mut Random, tally: &mut Tally, page: &Page) {
+    let lent = lend(random, page);
+    let mut found = lent.clone();
+    let answer = ffi::segments(page, &mut found);
+    let number = question(page, &lent);
+    let (expected, library) = if number == 0 {
+        let expected = accepted(page, &lent);
+        (expected, answers(answer.number, answer.count, &found))
+    } else {
+        let kept = [answers(number, 0, &lent), work(&lent)].concat();
+        let library = [answers(answer.number, answer.count, &found), work(&found)].concat();
+        (kept, library)
+    };
+    tally.compare(&expected, &library, || format!("{page:?}"));
+}
+
+/// The number, the count and every place of the lists that are answered in.
+fn answers(number: u32, count: usize, lent: &Lent) -> Vec<u64> {
+    let mut words = vec![u64::from(number), count as u64];
+    for list in [&lent.rects, &lent.directions, &lent.members, &lent.ends] {
+        words.extend(list.iter().map(|&x| u64::from(x)));
+    }
+    words.extend(lent.contrasts.iter().map(|&x| bits(x)));
+    words
+}
+
+/// Every place of the work lists.
+fn work(lent: &Lent) -> Vec<u64> {
+    let lists = [&lent.parents, &lent.listed, &lent.listed_ends, &lent.work];
+    let words = lists.into_iter().flatten().map(|&x| u64::from(x));
+    words.chain(lent.keys.iter().copied()).collect()
+}
+
+/// What an accepted page answers: the Rust's segments, and the sets of a flood fill in their order.
+fn accepted(page: &Page, lent: &Lent) -> Vec<u64> {
+    let segments = rulings::segments(&layout(page), &page.raster, &params::rust(&page.params));
+    let sets = pieces::closed_sets(page);
+    let mut written = lent.clone();
+    let mut end = 0;
+    for (k, set) in sets.iter().enumerate() {
+        for &i in set {
+            written.members[end] = i as u32;
+            end += 1;
+        }
+        written.ends[k] = end as u32;
+    }
+    for (k, s) in segments.iter().enumerate() {
+        let r = &s.rect;
+        written.rects[4 * k..4 * k + 4].copy_from_slice(&[r.x0, r.y0, r.x1, r.y1]);
+        written.directions[k] = u32::from(!s.horizontal);
+        written.contrasts[k] = s.contrast;
+    }
+    let count = if sets.len() == segments.len() {
+        sets.len()
+    } else {
+        usize::MAX
+    };
+    answers(0, count, &written)
+}
+
+/// Lists with room and sometimes more, filled with a pattern; now and then one entry short.
+fn lend(random: &mut Random, page: &Page) -> Lent {
+    let n = page.pieces.len() / 4;
+    let short = random.below(40);
+    let mut room = |list: u64, n: usize| {
+        let n = n + random.below(3) as usize;
+        if short == list {
+            n.saturating_sub(3)
+        } else {
+            n
+        }
+    };
+    let sizes = [
+        room(0, 4 * n),
+        room(1, n),
+        room(2, n),
+        room(3, n),
+        room(4, n),
+        room(5, n),
+        room(6, n),
+        room(7, n),
+        room(8, n),
+        room(9, n),
+    ];
+    let mut words = |n: usize| (0..n).map(|_| random.bits() as u32).collect::<Vec<u32>>();
+    Lent {
+        rects: words(sizes[0]),
+        directions: words(sizes[1]),
+        contrasts: words(sizes[2]).into_iter().map(f64::from).collect(),
+        members: words(sizes[3]),
+        ends: words(sizes[4]),
+        parents: words(sizes[5]),
+        listed: words(sizes[6]),
+        listed_ends: words(sizes[7]),
+        work: words(sizes[8]),
+        keys: words(sizes[9]).into_iter().map(u64::from).collect(),
+    }
+}
+
+/// The Rust's layout of a page, by its public fields.
+fn layout(page: &Page) -> Layout {
+    Layout {
+        width: page.width,
+        height: page.height,
+        page_width: page.width,
+        page_height: page.height,
+        skew_deg: 0.0,
+        shear: Vec::new(),
+        shear_x: Vec::new(),
+        xheight: page.xheight,
+        glyph_count: 0,
+        glyph_ink_pixels: 0,
+        ink_pixels: 0,
+        lines: Vec::new(),
+        glyphs: Vec::new(),
+        ink: Vec::new(),
+        blocks: Vec::new(),
+        rules: pieces::rects(page)
+            .map(|[x0, y0, x1, y1]| Rect { x0, y0, x1, y1 })
+            .collect(),
+        graphics: Vec::new(),
+        columns: Vec::new(),
+    }
+}
+
+/// The number of the first missed question of document 01, said here in plain Rust.
+fn question(page: &Page, lent: &Lent) -> u32 {
+    let side = |n: usize| (1..=LARGEST_SIDE).contains(&n);
+    let n = page.pieces.len() / 4;
+    let inside = |[x0, y0, x1, y1]: [u32; 4]| {
+        x0 <= x1 && y0 <= y1 && (x1 as usize) < page.width && (y1 as usize) < page.height
+    };
+    let settings = params::first_missed(&page.params);
+    let room = page.raster.len() as u128 == page.width as u128 * page.height as u128
+        && lent.rects.len() >= 4 * n
+        && [&lent.directions, &lent.members, &lent.ends, &lent.parents]
+            .iter()
+            .chain(&[&lent.listed, &lent.listed_ends, &lent.work])
+            .all(|list| list.len() >= n)
+        && lent.contrasts.len() >= n
+        && lent.keys.len() >= n;
+    let questions = [
+        (1, side(page.width) && side(page.height)),
+        (2, page.xheight > 0.0 && page.xheight <= 4_096.0),
+        (5, page.pieces.len() % 4 == 0 && n <= MOST_PIECES),
+        (6, pieces::rects(page).all(inside)),
+        (settings, settings == 0),
+        (14, room),
+    ];
+    let missed = questions.iter().find(|(_, yes)| !yes);
+    missed.map_or(0, |&(number, _)| number)
+}
+
+/// One change that may miss a question.
+fn spoil(random: &mut Random, page: &mut Page) {
+    let huge = [0, LARGEST_SIDE + 1, 1 << 40, usize::MAX];
+    match random.below(12) {
+        0 => page.width = random.pick(&huge),
+        1 => page.height = random.pick(&huge),
+        2 => page.xheight = random.pick(&[0.0, -0.0, -1.0, 4_096.5, f64::INFINITY, f64::NAN]),
+        3 => page.pieces.push(0),
+        4 if random.below(50) == 0 => page.pieces = vec![0; 4 * (MOST_PIECES + 1)],
+        4 | 5 => outside(random, page),
+        6 => page.params.table_prior = random.pick(&[1.1e6, -1.1e6, f64::NAN]),
+        7 => page.params.merge_gap_xh = random.pick(&[-1.0, -f64::MIN_POSITIVE]),
+        8 => page.params.box_max_xh = VALID.box_min_xh.next_down(),
+        9 => page.params.box_tolerance_px = 4,
+        10 if random.below(2) == 0 => page.params.grid_min_boxes = 1,
+        10 => page.params.min_free_rules = 0,
+        _ => {
+            page.raster.pop();
+        }
+    }
+}
+
+/// One coordinate moved to or past the picture's edge.
+fn outside(random: &mut Random, page: &mut Page) {
+    if page.pieces.is_empty() {
+        return;
+    }
+    let at = random.below(page.pieces.len() as u64) as usize;
+    let edge = if at % 2 == 0 { page.width } else { page.height } as u32;
+    page.pieces[at] = random.pick(&[edge, edge.wrapping_sub(1), 0, u32::MAX]);
+}
