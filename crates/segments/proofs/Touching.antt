@@ -66,17 +66,21 @@ far-within reach a b = go (ltb (a + reach) b) (ltb (b + reach) a) refl refl
         let m = ltb-false (b + reach) a f in
         le-leb (max a b - min a b) reach (omega arith)
 
+-- one span ends more than a gap before the other begins
+abbrev pub past : ℕ → ℕ → ℕ → ℕ → ℕ → Bool
+past gap e t f s = ltb (e + (gap + 1)) t || ltb (f + (gap + 1)) s
+
 -- of ordered spans only the start of one and the end of the other matter
-reaching : (s e t f gap : ℕ) → s ≤ e → t ≤ f → leb (max s t) (min e f + 1 + gap) ≡ leb s (f + (gap + 1)) && leb t (e + (gap + 1))
-reaching s e t f gap h k = go (leb s (f + (gap + 1))) (leb t (e + (gap + 1))) refl refl
+reaching : (s e t f gap : ℕ) → s ≤ e → t ≤ f → leb (max s t) (min e f + 1 + gap) ≡ not (past gap e t f s)
+reaching s e t f gap h k = go (ltb (e + (gap + 1)) t) (ltb (f + (gap + 1)) s) refl refl
   where
-    go : (x y : Bool) → leb s (f + (gap + 1)) ≡ x → leb t (e + (gap + 1)) ≡ y → leb (max s t) (min e f + 1 + gap) ≡ x && y
-    go true true p q =
-        let l = leb-true s (f + (gap + 1)) p in
-        let m = leb-true t (e + (gap + 1)) q in
+    go : (x y : Bool) → ltb (e + (gap + 1)) t ≡ x → ltb (f + (gap + 1)) s ≡ y → leb (max s t) (min e f + 1 + gap) ≡ not (x || y)
+    go true y p q = let l = ltb-true (e + (gap + 1)) t p in lt-leb (max s t) (min e f + 1 + gap) (omega arith)
+    go false true p q = let l = ltb-true (f + (gap + 1)) s q in lt-leb (max s t) (min e f + 1 + gap) (omega arith)
+    go false false p q =
+        let l = ltb-false (e + (gap + 1)) t p in
+        let m = ltb-false (f + (gap + 1)) s q in
         le-leb (max s t) (min e f + 1 + gap) (omega arith)
-    go true false p q = let l = leb-false t (e + (gap + 1)) q in lt-leb (max s t) (min e f + 1 + gap) (omega arith)
-    go false y p q = let l = leb-false s (f + (gap + 1)) p in lt-leb (max s t) (min e f + 1 + gap) (omega arith)
 
 in-order : (h : Bool) (r : Rect) → Ordered r → startIn h r ≤ endIn h r
 in-order true r o = o .wide
@@ -95,12 +99,12 @@ module _ (across gap : ℕ) (a b : Rect) (h : Bool) (e : h ≡ horizontal a) whe
       go false true f = refl
       go false false f = rw f
 
-  pub touches-near : {x y s t u v : ℕ} {g : Bool} → Ordered a → Ordered b → x ≡ centreIn h a → y ≡ centreIn h b → far (2 * across) x y ≡ false
-      → s ≡ startIn h a → u ≡ endIn h b → t ≡ startIn h b → v ≡ endIn h a → g ≡ agree h (horizontal b)
-      → leb s (u + (gap + 1)) && leb t (v + (gap + 1)) && g ≡ touching across gap a b
-  touches-near {x} {y} {s} {t} {u} {v} {g} oa ob p q f es eu et ev ek =
-      rw (es, eu, et, ev, ek) (sym (ap (λ z. z && agree h (horizontal b)) (reaching (startIn h a) (endIn h a) (startIn h b) (endIn h b) gap (in-order h a oa) (in-order h b ob)))
-      ∙ sym (touching-by ∙ go h (horizontal b) (far-within (2 * across) (centreIn h a) (centreIn h b) ∙ ap not (sym (ap₂ (far (2 * across)) p q) ∙ f))))
+  -- centres that are near leave the spans and the direction of the other piece
+  near : Ordered a → Ordered b → within (2 * across) (centreIn h a) (centreIn h b) ≡ true
+      → touching across gap a b ≡ not (past gap (endIn h a) (startIn h b) (endIn h b) (startIn h a)) && agree h (horizontal b)
+  near oa ob f =
+      touching-by ∙ go h (horizontal b) f
+      ∙ ap (λ z. z && agree h (horizontal b)) (reaching (startIn h a) (endIn h a) (startIn h b) (endIn h b) gap (in-order h a oa) (in-order h b ob))
     where
       go : (h k : Bool) → within (2 * across) (centreIn h a) (centreIn h b) ≡ true
           → touchingIn h k (2 * across) gap a b ≡ leb (max (startIn h a) (startIn h b)) (min (endIn h a) (endIn h b) + 1 + gap) && agree h k
@@ -108,3 +112,17 @@ module _ (across gap : ℕ) (a b : Rect) (h : Bool) (e : h ≡ horizontal a) whe
       go true false f = sym (and-false (leb (max (startIn true a) (startIn true b)) (min (endIn true a) (endIn true b) + 1 + gap)))
       go false true f = sym (and-false (leb (max (startIn false a) (startIn false b)) (min (endIn false a) (endIn false b) + 1 + gap)))
       go false false f = rw f (sym (and-true (leb (max (startIn false a) (startIn false b)) (min (endIn false a) (endIn false b) + 1 + gap))))
+
+  module _ {x y e₁ t e₂ s : ℕ} (oa : Ordered a) (ob : Ordered b) (p : x ≡ centreIn h a) (q : y ≡ centreIn h b) (f : far (2 * across) x y ≡ false)
+      (ev : e₁ ≡ endIn h a) (et : t ≡ startIn h b) (eu : e₂ ≡ endIn h b) (es : s ≡ startIn h a) where
+    spans : (z : Bool) → past gap e₁ t e₂ s ≡ z → touching across gap a b ≡ not z && agree h (horizontal b)
+    spans z r =
+        let same : past gap (endIn h a) (startIn h b) (endIn h b) (startIn h a) ≡ z = rw (← ev, ← et, ← eu, ← es) r in
+        near oa ob (far-within (2 * across) (centreIn h a) (centreIn h b) ∙ ap not (sym (ap₂ (far (2 * across)) p q) ∙ f))
+        ∙ ap (λ (k : Bool). not k && agree h (horizontal b)) same
+
+    pub touches-past : past gap e₁ t e₂ s ≡ true → touching across gap a b ≡ false
+    touches-past r = spans true r
+
+    pub touches-near : {g : Bool} → past gap e₁ t e₂ s ≡ false → g ≡ agree h (horizontal b) → g ≡ touching across gap a b
+    touches-near r k = k ∙ sym (spans false r)

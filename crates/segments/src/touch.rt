@@ -46,7 +46,7 @@ fn agree(a: bool, b: bool) -> bool
     if a { b } else { !b }
 }
 
-// Do two pieces touch? The direction of the first is given, and the test that rules out most pairs comes first.
+// Do two pieces touch? The direction of the first is given, and the tests that rule out most pairs come first.
 fn touches(a: Rect, direction: bool, b: Rect, across: u32, gap: u32) -> bool
     requires { ⌜ Ordered a × Ordered b × (direction ≡ horizontal a) ⌝ }
     ensures { λ t. ⌜ t ≡ touching across gap a b ⌝ }
@@ -58,9 +58,12 @@ fn touches(a: Rect, direction: bool, b: Rect, across: u32, gap: u32) -> bool
         return false;
     }
     let past = gap as u64 + 1;
-    let near = (start(a, direction) <= end(b, direction) + past)
-        & (start(b, direction) <= end(a, direction) + past);
-    near & agree(direction, is_horizontal(b))
+    let ends_before = end(a, direction) + past < start(b, direction);
+    let starts_behind = end(b, direction) + past < start(a, direction);
+    if ends_before | starts_behind {
+        return false;
+    }
+    agree(direction, is_horizontal(b))
 }
 
 // Joins piece i with every later piece that it touches.

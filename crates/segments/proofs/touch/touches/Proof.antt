@@ -3,7 +3,7 @@ use mathlib.Core.Path.{sym, ap, _∙_}
 use native.Mathlib.Omega.{arith}
 use borrow.Author.Needs.{needs}
 use Rattle.segments.specs.Pieces as Pieces
-use Rattle.segments.proofs.Touching.{touches-far, touches-near}
+use Rattle.segments.proofs.Touching.{touches-far, touches-past, touches-near}
 use Rattle.segments.proofs.touch.touches.Statement.{statement}
 use Rattle.segments.proofs.touch.touches.Tie as tie
 
@@ -24,30 +24,35 @@ add-if1-2 c = omega (arith, c .centre22 .ensures .1)
 
 returns : tie.Need-returns
 returns c =
-    let start = c .before .before .before in
-    sym (touches-far (start .args .across) (start .args .gap) (start .args .a) (start .args .b) (start .args .direction) (start .pre .2)
-    (c .before .before .centre2 .ensures .0) (c .before .centre22 .ensures .0) (c .if1 .taken))
+    let a = c .before .before .before .args in
+    sym (touches-far (a .across) (a .gap) (a .a) (a .b) (a .direction) (c .before .before .before .pre .2) (c .before .before .centre2 .ensures .0) (c .before .centre22 .ensures .0) (c .if1 .taken))
 
 add-past : tie.Need-add-past
 add-past c = search needs
 
-start-requires : tie.Need-start-requires
-start-requires c κs = search needs
-
 end-requires : tie.Need-end-requires
 end-requires c κs = search needs
 
-add-near : tie.Need-add-near
-add-near c = omega (arith, c .end .ensures .1)
+add-ends-before : tie.Need-add-ends-before
+add-ends-before c = omega (arith, c .end .ensures .1)
 
-start-requires-2 : tie.Need-start-requires-2
-start-requires-2 c κs = search needs
+start-requires : tie.Need-start-requires
+start-requires c κs = search needs
 
 end-requires-2 : tie.Need-end-requires-2
 end-requires-2 c κs = search needs
 
-add-near-2 : tie.Need-add-near-2
-add-near-2 c = omega (arith, c .end2 .ensures .1)
+add-starts-behind : tie.Need-add-starts-behind
+add-starts-behind c = omega (arith, c .end2 .ensures .1)
+
+start-requires-2 : tie.Need-start-requires-2
+start-requires-2 c κs = search needs
+
+returns-2 : tie.Need-returns-2
+returns-2 c =
+    let a = c .before .before .before .before .before .before .before .before .args in
+    sym (touches-past (a .across) (a .gap) (a .a) (a .b) (a .direction) (c .before .before .before .before .before .before .before .before .pre .2) (c .before .before .before .before .before .before .before .before .pre .0) (c .before .before .before .before .before .before .before .before .pre .1) (c .before .before .before .before .before .before .before .centre2 .ensures .0) (c .before .before .before .before .before .before .centre22 .ensures .0) (c .before .before .before .before .before .if1 .left)
+    (c .before .before .before .before .end .ensures .0) (c .before .before .before .start .ensures .0) (c .before .before .end2 .ensures .0) (c .before .start2 .ensures .0) (c .if2 .taken))
 
 is-horizontal-requires : tie.Need-is-horizontal-requires
 is-horizontal-requires c κs = search needs
@@ -55,14 +60,12 @@ is-horizontal-requires c κs = search needs
 agree-requires : tie.Need-agree-requires
 agree-requires c κs = search needs
 
-returns-2 : tie.Need-returns-2
-returns-2 c =
-    let start = c .before .before .before .before .before .before .before .before .before in
-    touches-near (start .args .across) (start .args .gap) (start .args .a) (start .args .b) (start .args .direction) (start .pre .2) (start .pre .0) (start .pre .1)
-    (c .before .before .before .before .before .before .before .before .centre2 .ensures .0) (c .before .before .before .before .before .before .before .centre22 .ensures .0)
-    (c .before .before .before .before .before .before .if1 .left) (c .before .before .before .before .before .start .ensures .0)
-    (c .before .before .before .before .end .ensures .0) (c .before .before .before .start2 .ensures .0) (c .before .before .end2 .ensures .0)
-    (c .agree .ensures ∙ ap (Pieces.agree (start .args .direction)) (c .before .is-horizontal .ensures))
+returns-3 : tie.Need-returns-3
+returns-3 c =
+    let a = c .before .before .before .before .before .before .before .before .before .before .args in
+    touches-near (a .across) (a .gap) (a .a) (a .b) (a .direction) (c .before .before .before .before .before .before .before .before .before .before .pre .2) (c .before .before .before .before .before .before .before .before .before .before .pre .0) (c .before .before .before .before .before .before .before .before .before .before .pre .1) (c .before .before .before .before .before .before .before .before .before .centre2 .ensures .0) (c .before .before .before .before .before .before .before .before .centre22 .ensures .0) (c .before .before .before .before .before .before .before .if1 .left)
+    (c .before .before .before .before .before .before .end .ensures .0) (c .before .before .before .before .before .start .ensures .0) (c .before .before .before .before .end2 .ensures .0) (c .before .before .before .start2 .ensures .0) (c .before .before .if2 .left)
+    (c .agree .ensures ∙ ap (Pieces.agree (a .direction)) (c .before .is-horizontal .ensures))
 
 pub touches-spec : {M : Type 1} → statement M
 touches-spec =
@@ -75,12 +78,13 @@ touches-spec =
     add-if1-2
     returns
     add-past
-    start-requires
     end-requires
-    add-near
-    start-requires-2
+    add-ends-before
+    start-requires
     end-requires-2
-    add-near-2
+    add-starts-behind
+    start-requires-2
+    returns-2
     is-horizontal-requires
     agree-requires
-    returns-2)
+    returns-3)
