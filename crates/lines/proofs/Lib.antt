@@ -1,0 +1,2 @@
+-- Why the line numbers are right.
+pub mod Sorted

@@ -1,0 +1,17 @@
+-- `lines::next_line` meets its contract.
+use native.Mathlib.Numerals.{add-one}
+use borrow.Author.Needs.{needs}
+use Rattle.lines.proofs.next_line.Statement.{statement}
+use Rattle.lines.proofs.next_line.Tie as tie
+
+add-result : tie.Need-add-result
+add-result c = search needs
+
+returns : tie.Need-returns
+returns c = rw (c .if1 .taken) (add-one (c .before .args .line))
+
+returns-2 : tie.Need-returns-2
+returns-2 c = search needs
+
+pub next-line-spec : {M : Type 1} → statement M
+next-line-spec = tie.close (tie.spec add-result returns returns-2)
