@@ -1,12 +1,12 @@
 -- What stands at a place of the sorted order, and the line number of the place after it.
-use mathlib.Core.Path.{_≡_, refl, sym, ap, _∙_}
+use mathlib.Core.Path.{_≡_, sym, ap, _∙_}
 use mathlib.Core.Bool.{Bool, true, false, cond}
-use mathlib.Core.List.{List, map}
-use Prim.Native.Nat.{ℕ, zero, suc, _+_, _≤_, _<_}
+use mathlib.Core.List.{List}
+use Prim.Native.Nat.{ℕ, zero, suc, _+_, _≤_, _<_, suc-le-suc}
 use native.Mathlib.Nat.{not-suc-le-zero, le-refl}
 use native.Mathlib.Omega.{arith}
 use borrow.Author.Tests.{le-ltb}
-use lib.ListN.{length, getD, take}
+use lib.ListN.{length, getD}
 use lib.Seq.{getD-take}
 use Rattle.lists.proofs.Keep.{getD-map}
 use Rattle.order.specs.Order.{keyAt, sortedIndexes}
@@ -54,3 +54,9 @@ pub lines-count : (limit : ℕ) (sorted : List ℕ) (i : ℕ) {line : ℕ} → 0
 unfolding linesTo
 lines-count limit sorted zero h e = absurd (not-suc-le-zero h)
 lines-count limit sorted (suc k) h e = ap suc e
+
+-- there are no more lines than positions
+pub lines-few : (limit : ℕ) (sorted : List ℕ) (i : ℕ) → linesTo limit sorted i ≤ i
+unfolding linesTo
+lines-few limit sorted zero = le-refl 0
+lines-few limit sorted (suc k) = suc-le-suc (line-low limit sorted k)

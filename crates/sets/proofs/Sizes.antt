@@ -83,6 +83,11 @@ module _ (n : ℕ) (f : ℕ → ℕ) (fixed : (i : ℕ) → i < n → f (f i) �
       ∙ length-append (concat (classesTo n f m)) (classOf n f m) in
       omega (arith, sizes (suc m), keep-size-le (λ j. ltb (f j) (suc m)) (below n), length-below n)
 
+  -- all sets together have no more members than there are indexes
+  pub classes-room : length (concat (classes n f)) ≤ n
+  classes-room =
+      omega (arith, ap (λ (w : List (List ℕ)). length (concat w)) (classes-all n f), sizes n, keep-size-le (λ j. ltb (f j) n) (below n), length-below n)
+
 pub length-ends : (k : ℕ) (ss : List (List ℕ)) → length (endsFrom k ss) ≡ length ss
 length-ends k [] = refl
 length-ends k (s ∷ ss) = ap suc (length-ends (k + length s) ss)

@@ -1,5 +1,4 @@
 -- `lines::sorted_at` meets its contract: the sorted order's index is one of the positions'.
-use Prim.Native.Nat.{ℕ, _<_}
 use native.Mathlib.Omega.{arith}
 use borrow.Author.Needs.{scaled-fits}
 use lib.ListN.{length, getD}

@@ -1,0 +1,147 @@
+-- What the guard computes, test by test, and what is known once it gives 0.
+use mathlib.Core.Path.{_≡_, refl, sym, ap, _∙_}
+use mathlib.Core.Bool.{Bool, true, false, cond, _&&_}
+use mathlib.Core.List.{List, [], _∷_, _++_}
+use Prim.Native.Nat.{ℕ, zero, suc, _+_, _*_, _/_, _%_, _≤_, _<_}
+use native.Mathlib.Omega.{arith}
+use native.Mathlib.Decide.{decLt}
+use lib.Dec.{eqb, leb}
+use lib.Ieee.{Float}
+use lib.ListN.{length, getD, List·getD-eq-default}
+use borrow.Author.Tests.{eqb-true, leb-true, eq-eqb, ne-eqb}
+use Rattle.lists.specs.Lists.{below, everyBelow}
+use Rattle.lists.proofs.Every.{and-first, and-second}
+use Rattle.lists.proofs.Keep.{length-below, getD-below}
+use Rattle.questions.specs.Questions.{firstMissed}
+use Rattle.questions.proofs.FirstMissed.{in-two-parts, all-yes, none-missed}
+use Rattle.params.specs.declared.settings.RulingsParams.{RulingsParams}
+use Rattle.params.specs.Scan.{xheightQuestions}
+use Rattle.params.specs.Settings.{settingsQuestions}
+use Rattle.rects.specs.Rects.{count, countFits, allInside}
+use Rattle.rects.proofs.Questions.{count-says, all-inside-says, has-numbers}
+use Rattle.tables.specs.Questions.{directionsFit, roomForTables, roomForIndexes, tableQuestions}
+use Rattle.tables.specs.Steps.{Given}
+use Rattle.tables.specs.Limits.{Settled}
+use Rattle.tables.specs.Call.{Lent, hasRoom, Roomy}
+
+-- two numbers and three tests, in the order of the questions
+abbrev pub nested : ℕ → Bool → Bool → ℕ → Bool → ℕ
+nested a g i b room = cond (eqb a 0) (cond g (cond i (cond (eqb b 0) (cond room 0 14) b) 6) 5) a
+
+module _ (a : ℕ) (g i : Bool) (b : ℕ) (room : Bool) where
+  pub by-scan : (a ≡ 0 → ⊥) → a ≡ nested a g i b room
+  by-scan n = rw (ne-eqb a 0 n) refl
+
+  pub by-given : a ≡ 0 → g ≡ false → 5 ≡ nested a g i b room
+  by-given ea eg = rw (eq-eqb a 0 ea, eg) refl
+
+  pub by-inside : a ≡ 0 → g ≡ true → i ≡ false → 6 ≡ nested a g i b room
+  by-inside ea eg ei = rw (eq-eqb a 0 ea, eg, ei) refl
+
+  pub by-settings : a ≡ 0 → g ≡ true → i ≡ true → (b ≡ 0 → ⊥) → b ≡ nested a g i b room
+  by-settings ea eg ei n = rw (eq-eqb a 0 ea, eg, ei, ne-eqb b 0 n) refl
+
+  pub by-room : a ≡ 0 → g ≡ true → i ≡ true → b ≡ 0 → room ≡ false → 14 ≡ nested a g i b room
+  by-room ea eg ei eb er = rw (eq-eqb a 0 ea, eg, ei, eq-eqb b 0 eb, er) refl
+
+  pub by-none : a ≡ 0 → g ≡ true → i ≡ true → b ≡ 0 → room ≡ true → 0 ≡ nested a g i b room
+  by-none ea eg ei eb er = rw (eq-eqb a 0 ea, eg, ei, eq-eqb b 0 eb, er) refl
+
+module _ (xheight : Float) (p : RulingsParams) (rects directions : List ℕ) (room : Bool) where
+  -- the questions in order, as nested tests
+  pub in-order : {a b : ℕ} {g i : Bool} → a ≡ firstMissed (xheightQuestions xheight) → g ≡ countFits 4096 rects && directionsFit rects directions
+      → i ≡ allInside 8192 8192 rects → b ≡ firstMissed (settingsQuestions p)
+      → nested a g i b room ≡ firstMissed (tableQuestions xheight p rects directions room)
+  in-order ea eg ei eb =
+      rw (ea, eg, ei, eb)
+      (ap (λ (n : ℕ). cond (eqb (firstMissed (xheightQuestions xheight)) 0) (cond (countFits 4096 rects && directionsFit rects directions) (cond (allInside 8192 8192 rects) n 6) 5) (firstMissed (xheightQuestions xheight)))
+      (sym (in-two-parts (settingsQuestions p) ((14, room) ∷ []) tt))
+      ∙ sym (in-two-parts (xheightQuestions xheight) ((5, countFits 4096 rects && directionsFit rects directions) ∷ (6, allInside 8192 8192 rects) ∷ settingsQuestions p ++ (14, room) ∷ []) tt))
+
+-- six and seven tests, each of which passed
+six : {a b c d e f : Bool} → a && b && c && d && e && f ≡ true → (a ≡ true) × (b ≡ true) × (c ≡ true) × (d ≡ true) × (e ≡ true) × (f ≡ true)
+six {a} {b} {c} {d} {e} {f} h =
+    let h₅ = and-first (a && b && c && d && e) f h in
+    let h₄ = and-first (a && b && c && d) e h₅ in
+    let h₃ = and-first (a && b && c) d h₄ in
+    let h₂ = and-first (a && b) c h₃ in (
+      and-first a b h₂,
+      and-second a b h₂,
+      and-second (a && b) c h₃,
+      and-second (a && b && c) d h₄,
+      and-second (a && b && c && d) e h₅,
+      and-second (a && b && c && d && e) f h,
+    )
+
+room-says : (n : ℕ) (l : Lent) → hasRoom n l ≡ true → Roomy n l × (n ≤ length (l .chosen))
+room-says n l h =
+    let t = six (and-first (roomForTables n (length (l .numbers)) (count (l .bounds)) (length (l .rows)) (length (l .columns)) (length (l .rulings)) (length (l .shares))) (roomForIndexes n (length (l .members)) (length (l .ends)) (length (l .free)) (length (l .chosen)) (length (l .parents)) (length (l .work)) (length (l .keys))) h) in
+    let i = and-second (roomForTables n (length (l .numbers)) (count (l .bounds)) (length (l .rows)) (length (l .columns)) (length (l .rulings)) (length (l .shares))) (roomForIndexes n (length (l .members)) (length (l .ends)) (length (l .free)) (length (l .chosen)) (length (l .parents)) (length (l .work)) (length (l .keys))) h in
+    let k = and-second (leb n (length (l .members)) && leb n (length (l .ends)) && leb n (length (l .free)) && leb n (length (l .chosen)) && leb n (length (l .parents)) && leb n (length (l .work))) (leb n (length (l .keys))) i in
+    let j = six (and-first (leb n (length (l .members)) && leb n (length (l .ends)) && leb n (length (l .free)) && leb n (length (l .chosen)) && leb n (length (l .parents)) && leb n (length (l .work))) (leb n (length (l .keys))) i) in
+    let b : n ≤ length (l .bounds) / 4 = leb-true _ _ (t .1) in (
+      record {
+        members = leb-true _ _ (j .0);
+        ends = leb-true _ _ (j .1);
+        numbers = leb-true _ _ (t .0);
+        bounds = omega arith;
+        rows = leb-true _ _ (t .2);
+        columns = leb-true _ _ (t .3);
+        rulings = leb-true _ _ (t .4);
+        shares = leb-true _ _ (t .5);
+        free = leb-true _ _ (j .2);
+        parents = leb-true _ _ (j .4);
+        work = leb-true _ _ (j .5);
+        keys = leb-true _ _ k;
+      },
+      leb-true _ _ (j .3),
+    )
+
+-- every coordinate of rectangles inside is below the side
+small : (rects : List ℕ) → length rects ≡ 4 * count rects → allInside 8192 8192 rects ≡ true → (k : ℕ) → getD rects k 0 < 8192
+small rects e h k = go (decLt k (length rects))
+  where
+    part : (r : ℕ) → r < 4 → k ≡ 4 * (k / 4) + r → k / 4 < count rects → getD rects k 0 < 8192
+    part zero l f b = let i = all-inside-says 8192 8192 rects h (k / 4) b in let g : k ≡ 4 * (k / 4) = omega arith in rw g (omega (arith, i .wide, i .right))
+    part (suc zero) l f b = let i = all-inside-says 8192 8192 rects h (k / 4) b in rw f (omega (arith, i .high, i .bottom))
+    part (suc (suc zero)) l f b = let i = all-inside-says 8192 8192 rects h (k / 4) b in rw f (omega (arith, i .right))
+    part (suc (suc (suc zero))) l f b = let i = all-inside-says 8192 8192 rects h (k / 4) b in rw f (omega (arith, i .bottom))
+    part (suc (suc (suc (suc r)))) l f b = absurd (omega arith)
+
+    go : Dec (k < length rects) → getD rects k 0 < 8192
+    go (yes l) = part (k % 4) (omega arith) (omega arith) (omega arith)
+    go (no l) = rw (List·getD-eq-default rects 0 {n = k} (omega arith)) (omega arith)
+
+given-says : (rects directions : List ℕ) → countFits 4096 rects && directionsFit rects directions ≡ true → allInside 8192 8192 rects ≡ true
+    → Given rects directions (below (count rects))
+given-says rects directions g h =
+    let c = count-says 4096 rects (and-first (countFits 4096 rects) (directionsFit rects directions) g) in
+    let d = and-second (countFits 4096 rects) (directionsFit rects directions) g in
+    let e = eqb-true (length directions) (count rects) (and-first (eqb (length directions) (count rects)) (everyBelow (length directions) (λ k. leb (getD directions k 0) 1)) d) in
+    record {
+      small = small rects (c .0) h;
+      rect = λ i l. let k : i < count rects = rw (length-below (count rects)) at l in rw (getD-below (count rects) i k) (has-numbers (length rects) i k);
+      direction = λ i l. let k : i < count rects = rw (length-below (count rects)) at l in rw (getD-below (count rects) i k, e) k;
+      few = rw (length-below (count rects)) (c .1);
+    }
+
+-- what a guard that gave 0 says
+pub record Passed (xheight : Float) (p : RulingsParams) (rects directions : List ℕ) (l : Lent) : Type 0 where
+  pub given : Given rects directions (below (count rects))
+  pub settled : Settled p xheight
+  pub roomy : Roomy (count rects) l
+  pub chosen : count rects ≤ length (l .chosen)
+  pub few : count rects ≤ 4096
+
+pub passed : (xheight : Float) (p : RulingsParams) (rects directions : List ℕ) (l : Lent)
+    → firstMissed (tableQuestions xheight p rects directions (hasRoom (count rects) l)) ≡ 0 → Passed xheight p rects directions l
+passed xheight p rects directions l h =
+    let y = all-yes (tableQuestions xheight p rects directions (hasRoom (count rects) l)) tt h in
+    let r = room-says (count rects) l (y .1 .1 .1 .1 .1 .1 .1 .1 .1 .0) in
+    record {
+      given = given-says rects directions (y .1 .0) (y .1 .1 .0);
+      settled = record { settings = none-missed (settingsQuestions p) (y .1 .1 .1 .0, (y .1 .1 .1 .1 .0, (y .1 .1 .1 .1 .1 .0, (y .1 .1 .1 .1 .1 .1 .0, (y .1 .1 .1 .1 .1 .1 .1 .0, (y .1 .1 .1 .1 .1 .1 .1 .1 .0, tt)))))); xheight-passed = none-missed (xheightQuestions xheight) (y .0, tt) };
+      roomy = r .0;
+      chosen = r .1;
+      few = count-says 4096 rects (and-first (countFits 4096 rects) (directionsFit rects directions) (y .1 .0)) .1;
+    }

@@ -1,0 +1,154 @@
+-- What `tables` promises: every lent list for accepted and refused input, and demand 3 for printed rulings.
+use mathlib.Core.Path.{_≡_}
+use mathlib.Core.Bool.{Bool, true, cond, not, _&&_}
+use mathlib.Core.List.{List, [], map}
+use Prim.Native.Nat.{ℕ, _*_, _≤_, _<_}
+use lib.Dec.{eqb}
+use lib.Ieee.{Float}
+use lib.ListN.{length, getD}
+use Rattle.lists.specs.Lists.{below, concat, written}
+use Rattle.sets.specs.Closed.{Below, Closed, Once, Listed}
+use Rattle.sets.specs.Listing.{endsFrom}
+use Rattle.questions.specs.Questions.{firstMissed}
+use Rattle.params.specs.declared.settings.RulingsParams.{RulingsParams}
+use Rattle.rects.specs.Rects.{count}
+use Rattle.rects.specs.Around.{around, Smallest}
+use Rattle.tables.specs.declared.limits.Limits.{Limits}
+use Rattle.tables.specs.Segments.{rulingAt}
+use Rattle.tables.specs.Tables.{Touch, isTable, rowsOf, columnsOf, shareOf}
+use Rattle.tables.specs.Answers.{rulingSets, tableNumbers, freeNumbers, freeList, placesOf, boundsOf}
+use Rattle.tables.specs.Limits.{limitsOf}
+use Rattle.tables.specs.Questions.{roomForTables, roomForIndexes, tableQuestions}
+
+-- A listing of the closed sets that pass a test: each number below the count names one, and each is listed once.
+pub record ListedWhere (D : ℕ → Type 0) (R : ℕ → ℕ → Type 0) (test : List ℕ → Bool) (ss : List (List ℕ)) : Type 0 where
+  pub closed : (k : ℕ) → k < length ss → Closed D R (getD ss k [])
+  pub passes : (k : ℕ) → k < length ss → test (getD ss k []) ≡ true
+  pub once : (s : List ℕ) → Closed D R s → test s ≡ true → Once ss s
+
+-- What is found among the chosen rulings, given the closed sets: the answers, list by list.
+module _ (rects directions chosen : List ℕ) (lim : Limits) where
+  -- the closed sets of the chosen rulings, by smallest index
+  abbrev pub allSets : List (List ℕ)
+  allSets = rulingSets (lim .join) (rulingAt rects directions chosen) (length chosen)
+
+  -- set k, empty for a number at or past the count
+  abbrev pub setAt : ℕ → List ℕ
+  setAt k = getD allSets k []
+
+  -- the numbers of the tables' sets
+  abbrev pub tables : List ℕ
+  tables = tableNumbers lim (rulingAt rects directions chosen) setAt (length allSets)
+
+  -- the refused sets strung in order
+  abbrev pub free : List ℕ
+  free = freeList lim (rulingAt rects directions chosen) setAt (length allSets)
+
+  -- each table's smallest rectangle, four numbers each
+  abbrev pub bounds : List ℕ
+  bounds = concat (map (λ k. boundsOf rects chosen (setAt k)) tables)
+
+  -- each table's rows, columns, number of rulings and joined share
+  abbrev pub rows : List ℕ
+  rows = map (λ k. rowsOf lim (rulingAt rects directions chosen) (setAt k)) tables
+
+  abbrev pub columns : List ℕ
+  columns = map (λ k. columnsOf lim (rulingAt rects directions chosen) (setAt k)) tables
+
+  abbrev pub rulings : List ℕ
+  rulings = map (λ k. length (setAt k)) tables
+
+  abbrev pub shares : List Float
+  shares = map (λ k. shareOf (lim .join) (rulingAt rects directions chosen) (setAt k)) tables
+
+  -- Demand 3 for printed rulings: a set is listed exactly when it is closed, and then once; the tables are exactly the closed sets with the set
+  -- minima and two lines each way, each once; the free list is made of all others, each once and whole, and of nothing else.
+  pub record Demand3 : Type 0 where
+    pub listed : Listed (Below (length chosen)) (Touch (lim .join) (rulingAt rects directions chosen)) allSets
+    pub each-table : ListedWhere (Below (length chosen)) (Touch (lim .join) (rulingAt rects directions chosen)) (isTable lim (rulingAt rects directions chosen)) (map setAt tables)
+    pub each-free :
+        ListedWhere (Below (length chosen)) (Touch (lim .join) (rulingAt rects directions chosen)) (λ s. not (isTable lim (rulingAt rects directions chosen) s))
+        (map setAt (freeNumbers lim (rulingAt rects directions chosen) setAt (length allSets)))
+    pub smallest : (k : ℕ) → k < length allSets → Smallest rects (placesOf chosen (setAt k)) (around rects (placesOf chosen (setAt k)))
+
+-- The content of the lists that are lent: answers, then work lists.
+pub record Lent : Type 0 where
+  pub members : List ℕ
+  pub ends : List ℕ
+  pub numbers : List ℕ
+  pub bounds : List ℕ
+  pub rows : List ℕ
+  pub columns : List ℕ
+  pub rulings : List ℕ
+  pub shares : List Float
+  pub free : List ℕ
+  pub chosen : List ℕ
+  pub parents : List ℕ
+  pub work : List ℕ
+  pub keys : List ℕ
+
+-- Every list has room for n rulings or as many tables.
+abbrev pub hasRoom : ℕ → Lent → Bool
+hasRoom n l =
+    roomForTables n (length (l .numbers)) (count (l .bounds)) (length (l .rows)) (length (l .columns)) (length (l .rulings)) (length (l .shares))
+    && roomForIndexes n (length (l .members)) (length (l .ends)) (length (l .free)) (length (l .chosen)) (length (l .parents)) (length (l .work)) (length (l .keys))
+
+-- The number of the first missed question, 0 for none.
+abbrev pub missedBy : Float → RulingsParams → List ℕ → List ℕ → Lent → ℕ
+missedBy xheight p rects directions l = firstMissed (tableQuestions xheight p rects directions (hasRoom (count rects) l))
+
+-- The answers stand in front where the page is accepted; a refused page leaves the list.
+abbrev pub answered : {A : Type 0} → ℕ → List A → List A → List A
+answered q xs lent = cond (eqb q 0) (written xs lent) lent
+
+-- What `core` leaves of the answers, and their counts.
+pub record Filled (rects directions chosen : List ℕ) (lim : Limits) (l l′ : Lent) (ss ts fs : ℕ) : Type 0 where
+  pub set-count : ss ≡ length (allSets rects directions chosen lim)
+  pub table-count : ts ≡ length (tables rects directions chosen lim)
+  pub free-count : fs ≡ length (free rects directions chosen lim)
+  pub members : l′ .members ≡ written (concat (allSets rects directions chosen lim)) (l .members)
+  pub ends : l′ .ends ≡ written (endsFrom 0 (allSets rects directions chosen lim)) (l .ends)
+  pub numbers : l′ .numbers ≡ written (tables rects directions chosen lim) (l .numbers)
+  pub bounds : l′ .bounds ≡ written (bounds rects directions chosen lim) (l .bounds)
+  pub rows : l′ .rows ≡ written (rows rects directions chosen lim) (l .rows)
+  pub columns : l′ .columns ≡ written (columns rects directions chosen lim) (l .columns)
+  pub rulings : l′ .rulings ≡ written (rulings rects directions chosen lim) (l .rulings)
+  pub shares : l′ .shares ≡ written (shares rects directions chosen lim) (l .shares)
+  pub free : l′ .free ≡ written (free rects directions chosen lim) (l .free)
+
+-- Every list has room for n rulings or as many tables: what question 14 shows.
+pub record Roomy (n : ℕ) (l : Lent) : Type 0 where
+  pub members : n ≤ length (l .members)
+  pub ends : n ≤ length (l .ends)
+  pub numbers : n ≤ length (l .numbers)
+  pub bounds : 4 * n ≤ length (l .bounds)
+  pub rows : n ≤ length (l .rows)
+  pub columns : n ≤ length (l .columns)
+  pub rulings : n ≤ length (l .rulings)
+  pub shares : n ≤ length (l .shares)
+  pub free : n ≤ length (l .free)
+  pub parents : n ≤ length (l .parents)
+  pub work : n ≤ length (l .work)
+  pub keys : n ≤ length (l .keys)
+
+-- What `tables` leaves, as q is the number of the first missed question: an accepted page's answers, and demand 3; a refused page leaves every list.
+pub record Tables (xheight : Float) (p : RulingsParams) (rects directions : List ℕ) (q : ℕ) (l l′ : Lent) (number ss ts fs : ℕ) : Type 0 where
+  pub missed : number ≡ q
+  pub set-count : ss ≡ cond (eqb q 0) (length (allSets rects directions (below (count rects)) (limitsOf p xheight))) 0
+  pub table-count : ts ≡ cond (eqb q 0) (length (tables rects directions (below (count rects)) (limitsOf p xheight))) 0
+  pub free-count : fs ≡ cond (eqb q 0) (length (free rects directions (below (count rects)) (limitsOf p xheight))) 0
+  pub members : l′ .members ≡ answered q (concat (allSets rects directions (below (count rects)) (limitsOf p xheight))) (l .members)
+  pub ends : l′ .ends ≡ answered q (endsFrom 0 (allSets rects directions (below (count rects)) (limitsOf p xheight))) (l .ends)
+  pub numbers : l′ .numbers ≡ answered q (tables rects directions (below (count rects)) (limitsOf p xheight)) (l .numbers)
+  pub bounds : l′ .bounds ≡ answered q (bounds rects directions (below (count rects)) (limitsOf p xheight)) (l .bounds)
+  pub rows : l′ .rows ≡ answered q (rows rects directions (below (count rects)) (limitsOf p xheight)) (l .rows)
+  pub columns : l′ .columns ≡ answered q (columns rects directions (below (count rects)) (limitsOf p xheight)) (l .columns)
+  pub rulings : l′ .rulings ≡ answered q (rulings rects directions (below (count rects)) (limitsOf p xheight)) (l .rulings)
+  pub shares : l′ .shares ≡ answered q (shares rects directions (below (count rects)) (limitsOf p xheight)) (l .shares)
+  pub free-list : l′ .free ≡ answered q (free rects directions (below (count rects)) (limitsOf p xheight)) (l .free)
+  -- a refused call leaves the work lists too
+  pub chosen-kept : (q ≡ 0 → ⊥) → l′ .chosen ≡ l .chosen
+  pub parents-kept : (q ≡ 0 → ⊥) → l′ .parents ≡ l .parents
+  pub work-kept : (q ≡ 0 → ⊥) → l′ .work ≡ l .work
+  pub keys-kept : (q ≡ 0 → ⊥) → l′ .keys ≡ l .keys
+  pub demand3 : Demand3 rects directions (below (count rects)) (limitsOf p xheight)
