@@ -214,6 +214,42 @@ struct lanegravel_rulings lanegravel_segments(
     uint32_t *listed, size_t listed_count, uint32_t *listed_ends, size_t listed_ends_count,
     uint32_t *work, size_t work_count, uint64_t *keys, size_t keys_count);
 
+/* What lanegravel_tables found: the number of the first missed question, 0 where none is missed, and
+ * how many sets, tables and free rulings there are; all 0 where a question is missed. */
+struct lanegravel_tables_answer {
+    uint32_t number;
+    size_t sets;
+    size_t tables;
+    size_t free;
+};
+
+/* Tables among rulings. A ruling is a rectangle of `rects` (x0, y0, x1, y1, both ends inside) with
+ * its direction (0 horizontal, 1 vertical); its index is its place. The questions, in order:
+ *    2  xheight is finite, above 0 and at most 4,096;
+ *    5  there are at most 4,096 rulings, `rects` has four numbers for each, `directions` has one for
+ *       each, 0 or 1;
+ *    6  every rectangle is ordered, its coordinates below 8,192;
+ *    7 to 11, 13  the settings are in their ranges;
+ *   14  every list has an entry for each ruling, `bounds` four.
+ * A refused call writes nothing. An accepted one writes, each from the front, and keeps the rest:
+ *   members, ends      the closed sets by smallest index, members ascending, and the end of each set;
+ *   numbers            for each table the number of its set, ascending; beside it
+ *   bounds             the smallest rectangle around the set, four numbers,
+ *   rows, columns      its lines minus one each way,
+ *   rulings, shares    the number of its rulings, and joined ends over all ends;
+ *   free               the members of all other sets, set by set.
+ * chosen, parents, work and keys are work lists: after an accepted call their content is free. */
+struct lanegravel_tables_answer lanegravel_tables(
+    double xheight, struct lanegravel_rulings_params p,
+    const uint32_t *rects, size_t rects_count, const uint32_t *directions, size_t directions_count,
+    uint32_t *members, size_t members_count, uint32_t *ends, size_t ends_count,
+    uint32_t *numbers, size_t numbers_count, uint32_t *bounds, size_t bounds_count,
+    uint32_t *rows, size_t rows_count, uint32_t *columns, size_t columns_count,
+    uint32_t *rulings, size_t rulings_count, double *shares, size_t shares_count,
+    uint32_t *free, size_t free_count, uint32_t *chosen, size_t chosen_count,
+    uint32_t *parents, size_t parents_count, uint32_t *work, size_t work_count,
+    uint64_t *keys, size_t keys_count);
+
 #ifdef __cplusplus
 }
 #endif

@@ -5,3 +5,4 @@ mod grouping;
 mod joining;
 mod levelling;
 mod settings;
+mod table_call;

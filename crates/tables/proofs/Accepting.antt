@@ -26,7 +26,7 @@ use Rattle.tables.proofs.Demand.{demand3}
 
 pub join-small : (p : RulingsParams) (xheight : Float) → Settled p xheight → limitsOf p xheight .join < 2 ^ 32
 join-small p xheight S =
-    let U = limits p xheight (settings-passed p (S .settings)) (xheight-passed xheight (S .xheight-passed)) .«join_tol» in
+    let U = limits p xheight (settings-passed p (S .settings) .0) (xheight-passed xheight (S .xheight-passed)) .«join_tol» in
     let e : limitsOf p xheight .join ≡ U .size = ap natAbs (U .is) in
     omega (arith, U .at-most)
 

@@ -6,6 +6,7 @@
 mod ffi;
 mod ffi_layout;
 mod ffi_segments;
+mod ffi_tables;
 mod floats;
 mod grouping;
 mod layout;
@@ -15,6 +16,7 @@ mod random;
 mod replay;
 mod rust_layout;
 mod segments;
+mod tables;
 mod tally;
 mod values;
 
@@ -106,6 +108,11 @@ const COMPARISONS: &[Comparison] = &[
         name: "segments on forms",
         count: 300,
         run: segments::forms,
+    },
+    Comparison {
+        name: "tables",
+        count: 400_000,
+        run: tables::tables,
     },
 ];
 
