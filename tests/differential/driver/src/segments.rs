@@ -17,7 +17,7 @@ const MOST_PIECES: usize = 4096;
 pub fn segments(random: &mut Random, count: u64) -> Tally {
     let mut tally = Tally::default();
     for case in 0..count {
-        let mut page = if case % 20_000 == 19_999 {
+        let mut page = if case % 20_000 == 19_998 {
             pieces::crowded(random, MOST_PIECES)
         } else {
             pieces::small(random)
@@ -105,7 +105,7 @@ fn accepted(page: &Page, lent: &Lent) -> Vec<u64> {
 /// Lists with room and sometimes more, filled with a pattern; now and then one entry short.
 fn lend(random: &mut Random, page: &Page) -> Lent {
     let n = page.pieces.len() / 4;
-    let short = random.below(40);
+    let short = random.below(100);
     let mut room = |list: u64, n: usize| {
         let n = n + random.below(3) as usize;
         if short == list {
