@@ -8,14 +8,31 @@ mod ffi;
 #[allow(dead_code)]
 #[path = "../../tests/differential/driver/src/ffi_layout.rs"]
 mod ffi_layout;
+#[path = "../../tests/differential/driver/src/ffi_segments.rs"]
+mod ffi_segments;
+#[path = "../../tests/differential/driver/src/ffi_tables.rs"]
+mod ffi_tables;
 mod grouping;
 mod levelling;
+#[allow(dead_code)]
+#[path = "../../tests/differential/driver/src/params.rs"]
+mod params;
 #[allow(dead_code)]
 #[path = "../../tests/differential/driver/src/random.rs"]
 mod random;
 #[path = "../../tests/differential/driver/src/rust_layout.rs"]
 mod rust_layout;
+mod stages;
+#[allow(dead_code)]
+#[path = "../../tests/differential/driver/src/tables.rs"]
+mod tables;
+#[allow(dead_code)]
+#[path = "../../tests/differential/driver/src/tally.rs"]
+mod tally;
 mod timing;
+#[allow(dead_code)]
+#[path = "../../tests/differential/driver/src/values.rs"]
+mod values;
 
 fn main() {
     let only = std::env::args().nth(1).unwrap_or_default();
@@ -23,7 +40,8 @@ fn main() {
     println!("|---|---|---|---|");
     let all = grouping::MEASUREMENTS
         .into_iter()
-        .chain(levelling::MEASUREMENTS);
+        .chain(levelling::MEASUREMENTS)
+        .chain(stages::MEASUREMENTS);
     for (name, measure) in all {
         if name.contains(only.as_str()) {
             println!("| {name} | {} |", measure());

@@ -1,19 +1,54 @@
-//! The Rust's side of a page.
+//! The Rust's layout, by its public fields.
 
-use pagetriage::pixel::layout::Layout;
+use pagetriage::pixel::layout::{Layout, Rect};
 
 use crate::ffi_layout::Page;
 
-/// The Rust's layout of a page, by its public fields.
+/// A page for levelling.
 pub fn layout(page: &Page) -> Layout {
     Layout {
         width: page.width,
         height: page.height,
         page_width: page.page_width,
         page_height: page.page_height,
-        skew_deg: 0.0,
         shear: page.shear.clone(),
         shear_x: page.shear_x.clone(),
+        ..blank()
+    }
+}
+
+/// A levelled picture with rule pieces, four numbers each.
+pub fn with_rules(width: usize, height: usize, xheight: f64, pieces: &[u32]) -> Layout {
+    Layout {
+        width,
+        height,
+        page_width: width,
+        page_height: height,
+        xheight,
+        rules: pieces.chunks_exact(4).map(rect).collect(),
+        ..blank()
+    }
+}
+
+/// The rectangle of four numbers.
+pub fn rect(r: &[u32]) -> Rect {
+    Rect {
+        x0: r[0],
+        y0: r[1],
+        x1: r[2],
+        y1: r[3],
+    }
+}
+
+fn blank() -> Layout {
+    Layout {
+        width: 0,
+        height: 0,
+        page_width: 0,
+        page_height: 0,
+        skew_deg: 0.0,
+        shear: Vec::new(),
+        shear_x: Vec::new(),
         xheight: 1.0,
         glyph_count: 0,
         glyph_ink_pixels: 0,

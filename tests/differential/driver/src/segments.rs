@@ -1,13 +1,13 @@
 //! Pieces to rulings: `segments`, against the unchanged Rust to the bit, its sets against a plain
 //! flood fill. Pages are small and of many kinds; every fourth one misses a question or several.
 
-use pagetriage::pixel::layout::{Layout, Rect};
 use pagetriage::pixel::rulings;
 
 use crate::ffi_segments::{self as ffi, Lent, Page};
 use crate::params::{self, VALID};
 use crate::pieces;
 use crate::random::Random;
+use crate::rust_layout::with_rules;
 use crate::tally::{Tally, bits};
 
 const LARGEST_SIDE: usize = 8192;
@@ -77,7 +77,8 @@ fn work(lent: &Lent) -> Vec<u64> {
 
 /// What an accepted page answers: the Rust's segments, and the sets of a flood fill in their order.
 fn accepted(page: &Page, lent: &Lent) -> Vec<u64> {
-    let segments = rulings::segments(&layout(page), &page.raster, &params::rust(&page.params));
+    let layout = with_rules(page.width, page.height, page.xheight, &page.pieces);
+    let segments = rulings::segments(&layout, &page.raster, &params::rust(&page.params));
     let sets = pieces::closed_sets(page);
     let mut written = lent.clone();
     let mut end = 0;
@@ -138,32 +139,6 @@ fn lend(random: &mut Random, page: &Page) -> Lent {
         listed_ends: words(sizes[7]),
         work: words(sizes[8]),
         keys: words(sizes[9]).into_iter().map(u64::from).collect(),
-    }
-}
-
-/// The Rust's layout of a page, by its public fields.
-fn layout(page: &Page) -> Layout {
-    Layout {
-        width: page.width,
-        height: page.height,
-        page_width: page.width,
-        page_height: page.height,
-        skew_deg: 0.0,
-        shear: Vec::new(),
-        shear_x: Vec::new(),
-        xheight: page.xheight,
-        glyph_count: 0,
-        glyph_ink_pixels: 0,
-        ink_pixels: 0,
-        lines: Vec::new(),
-        glyphs: Vec::new(),
-        ink: Vec::new(),
-        blocks: Vec::new(),
-        rules: pieces::rects(page)
-            .map(|[x0, y0, x1, y1]| Rect { x0, y0, x1, y1 })
-            .collect(),
-        graphics: Vec::new(),
-        columns: Vec::new(),
     }
 }
 

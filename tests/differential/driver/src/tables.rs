@@ -1,47 +1,14 @@
 //! `tables`: random sets of rulings. The Rust gives tables and leftover; it lists no sets, so the
 //! closed sets are held against a plain search. Refused calls must leave every list as it was.
 
-use pagetriage::pixel::layout::Rect;
 use pagetriage::pixel::rulings;
 
 use crate::ffi::RulingsParams;
 use crate::ffi_tables::{self as ffi, TablesLists};
+use crate::params::{self, VALID};
 use crate::random::Random;
+use crate::rust_layout::rect;
 use crate::tally::Tally;
-
-/// Settings that miss no question.
-const VALID: RulingsParams = RulingsParams {
-    merge_across_xh: 0.2,
-    merge_gap_xh: 1.0,
-    rule_min_contrast: 40.0,
-    fold_min_length_in: 2.0,
-    join_tol_xh: 0.5,
-    table_min_horizontal: 2,
-    table_min_vertical: 2,
-    line_cluster_xh: 0.3,
-    table_prior: -1.0,
-    table_cells_coef: 0.5,
-    table_cells_cap: 3.0,
-    table_junction_coef: 2.0,
-    min_free_rules: 1,
-    free_rules_prior: -0.5,
-    free_rules_coef: 0.4,
-    free_rules_cap: 2.0,
-    box_min_xh: 0.6,
-    box_min_in: 0.05,
-    box_max_xh: 4.0,
-    box_overshoot_fraction: 0.2,
-    box_aspect_tol: 0.15,
-    box_tolerance_px: 1,
-    box_edge_coverage: 0.8,
-    box_max_inner_ink: 0.5,
-    box_checked_ink: 0.05,
-    grid_align_xh: 0.25,
-    grid_min_boxes: 2,
-    grid_prior: -1.5,
-    grid_coef: 0.5,
-    grid_cap: 3.0,
-};
 
 /// What a call is given.
 struct Page {
@@ -183,7 +150,7 @@ fn spoil(random: &mut Random, page: &mut Page) -> u32 {
 }
 
 /// Lists with a pattern that no answer has.
-fn lent(random_room: i64, n: usize) -> TablesLists {
+pub fn lent(random_room: i64, n: usize) -> TablesLists {
     let room = (n as i64 + random_room).max(0) as usize;
     let words = |mark: u32| (0..room as u32).map(|k| mark + k).collect::<Vec<u32>>();
     TablesLists {
@@ -243,24 +210,20 @@ fn compare(tally: &mut Tally, page: &Page, number: u32) {
     });
 }
 
+/// The rulings for the Rust.
+pub fn segments(rects: &[u32], directions: &[u32]) -> Vec<rulings::Segment> {
+    let ruling = |(r, &direction)| rulings::Segment {
+        rect: rect(r),
+        horizontal: direction == 0,
+        contrast: 0.0,
+    };
+    rects.chunks(4).zip(directions).map(ruling).collect()
+}
+
 /// The lists as the Rust's answers leave them, and the counts.
 fn wanted(page: &Page, before: &TablesLists, counts: &mut [u64]) -> TablesLists {
-    let segments: Vec<rulings::Segment> = page
-        .rects
-        .chunks(4)
-        .zip(&page.directions)
-        .map(|(r, &direction)| rulings::Segment {
-            rect: Rect {
-                x0: r[0],
-                y0: r[1],
-                x1: r[2],
-                y1: r[3],
-            },
-            horizontal: direction == 0,
-            contrast: 0.0,
-        })
-        .collect();
-    let (tables, leftover) = rulings::tables(&segments, page.xheight, &rust(&page.p));
+    let segments = segments(&page.rects, &page.directions);
+    let (tables, leftover) = rulings::tables(&segments, page.xheight, &params::rust(&page.p));
     let join = (page.p.join_tol_xh * page.xheight).round() as i64;
     let sets = closed_sets(&page.rects, &page.directions, join);
     let mut l = before.clone();
@@ -352,40 +315,4 @@ fn words(l: &TablesLists, work: bool) -> Vec<u64> {
         out.extend(&l.keys);
     }
     out
-}
-
-/// The same settings for the Rust.
-fn rust(p: &RulingsParams) -> rulings::RulingsParams {
-    rulings::RulingsParams {
-        merge_across_xh: p.merge_across_xh,
-        merge_gap_xh: p.merge_gap_xh,
-        rule_min_contrast: p.rule_min_contrast,
-        fold_min_length_in: p.fold_min_length_in,
-        join_tol_xh: p.join_tol_xh,
-        table_min_horizontal: p.table_min_horizontal as usize,
-        table_min_vertical: p.table_min_vertical as usize,
-        line_cluster_xh: p.line_cluster_xh,
-        table_prior: p.table_prior,
-        table_cells_coef: p.table_cells_coef,
-        table_cells_cap: p.table_cells_cap,
-        table_junction_coef: p.table_junction_coef,
-        min_free_rules: p.min_free_rules as usize,
-        free_rules_prior: p.free_rules_prior,
-        free_rules_coef: p.free_rules_coef,
-        free_rules_cap: p.free_rules_cap,
-        box_min_xh: p.box_min_xh,
-        box_min_in: p.box_min_in,
-        box_max_xh: p.box_max_xh,
-        box_overshoot_fraction: p.box_overshoot_fraction,
-        box_aspect_tol: p.box_aspect_tol,
-        box_tolerance_px: p.box_tolerance_px as usize,
-        box_edge_coverage: p.box_edge_coverage,
-        box_max_inner_ink: p.box_max_inner_ink,
-        box_checked_ink: p.box_checked_ink,
-        grid_align_xh: p.grid_align_xh,
-        grid_min_boxes: p.grid_min_boxes as usize,
-        grid_prior: p.grid_prior,
-        grid_coef: p.grid_coef,
-        grid_cap: p.grid_cap,
-    }
 }
