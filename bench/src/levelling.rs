@@ -7,13 +7,18 @@ use crate::random::Random;
 use crate::rust_layout::layout;
 use crate::timing::{Times, compare};
 
-pub const MEASUREMENTS: [(&str, fn() -> Times); 2] = [
-    ("level 2,480 by 3,508, skew of one degree", || level(1.0)),
-    ("level 2,480 by 3,508, no skew", || level(0.0)),
+pub const MEASUREMENTS: [(&str, fn() -> Times); 3] = [
+    ("level 2,480 by 3,508, skew of one degree", || {
+        level(skewed(1f64.to_radians().tan()))
+    }),
+    ("level 2,480 by 3,508, no skew", || level(skewed(0.0))),
+    (
+        "level 2,480 by 3,508, columns by turns one row lower",
+        || level(page((0..2_480).map(|x| x % 2).collect(), |_| 0)),
+    ),
 ];
 
-fn level(degrees: f64) -> Times {
-    let page = page(2_480, 3_508, degrees.to_radians().tan());
+fn level(page: Page) -> Times {
     let layout = layout(&page);
     let mut out = vec![0; page.width * page.height];
     assert_eq!(ffi::level_gray(&page, &mut out), 0);
@@ -30,11 +35,15 @@ fn level(degrees: f64) -> Times {
 }
 
 /// Each column goes down, and each row to the right, as far as the slope says.
-fn page(page_width: usize, page_height: usize, slope: f64) -> Page {
-    let steps = |n: usize| (0..n).map(|i| (i as f64 * slope) as i32).collect();
-    let shear: Vec<i32> = steps(page_width);
+fn skewed(slope: f64) -> Page {
+    let step = |i: usize| (i as f64 * slope) as i32;
+    page((0..2_480).map(step).collect(), step)
+}
+
+fn page(shear: Vec<i32>, across: impl Fn(usize) -> i32) -> Page {
+    let (page_width, page_height) = (2_480, 3_508);
     let height = page_height + shear[page_width - 1] as usize;
-    let shear_x: Vec<i32> = steps(height);
+    let shear_x: Vec<i32> = (0..height).map(across).collect();
     let mut random = Random::new(1);
     Page {
         page_width,
