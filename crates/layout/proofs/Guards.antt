@@ -1,6 +1,6 @@
 -- What a guard's number gives: the core's facts where it is 0, and the refusal where it is not.
 -- Assumes nothing.
-use mathlib.Core.Path.{_≡_, sym, ap}
+use mathlib.Core.Path.{_≡_, sym, ap, _∙_}
 use mathlib.Core.Bool.{Bool, cond}
 use mathlib.Core.List.{List}
 use Prim.Native.Nat.{ℕ}
@@ -38,6 +38,9 @@ module _ (sides : Sides) (shear shear-x : List ℤ) where
 
   pub level-refused : (gray out : List ℕ) (q : ℕ) → q ≡ firstMissed (levelQuestions sides gray shear shear-x (length out)) → (q ≡ 0 → ⊥) → LevelGray sides gray shear shear-x out out q
   level-refused gray out q e h = record { is-number = e; raster = kept-if-refused q (levelled sides gray shear shear-x) out h }
+
+  pub level-accepted : (gray out out′ : List ℕ) (q : ℕ) → q ≡ firstMissed (levelQuestions sides gray shear shear-x (length out)) → q ≡ 0 → out′ ≡ levelled sides gray shear shear-x → LevelGray sides gray shear shear-x out out′ q
+  level-accepted gray out out′ q e z h = record { is-number = e; raster = h ∙ ap (λ (n : ℕ). cond (eqb n 0) (levelled sides gray shear shear-x) out) (sym z) }
 
   pub mapped-yes : (r : Rect) → firstMissed (mapQuestions sides shear shear-x r) ≡ 0 → SidesAre sides × (Sheared sides shear shear-x × Inside (sides .w) (sides .h) r)
   mapped-yes r h =

@@ -49,12 +49,12 @@ pub fn level_question(sides: Sides, gray: &[u8], shear: &[i32], shear_x: &[i32],
 pub fn level_gray(sides: Sides, gray: &[u8], shear: &[i32], shear_x: &[i32], out: &mut [u8]) -> u32
     ensures { λ r. ⌜ LevelGray sides (now (gray .entry)) (now (shear .entry)) (now («shear_x» .entry)) (now (out .entry)) (now (out .exit)) r ⌝ }
 {
-    let missed = level_question(sides, gray, shear, shear_x, out.len());
-    if missed != 0 {
-        return missed;
+    let number = level_question(sides, gray, shear, shear_x, out.len());
+    if number != 0 {
+        return number;
     }
     level::level(sides, gray, shear, shear_x, out);
-    0
+    number
 }
 
 // The guard of `to_page` and `rect_to_page`.

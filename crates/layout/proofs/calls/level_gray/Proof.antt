@@ -1,6 +1,6 @@
 -- `layout::calls::level_gray` meets its contract: refused, nothing is written; accepted, the core levels. Assumes nothing.
 use mathlib.Core.Path.{sym, _∙_}
-use Rattle.layout.proofs.Guards.{level-refused, ready-yes}
+use Rattle.layout.proofs.Guards.{level-refused, level-accepted, ready-yes}
 use borrow.Author.Needs.{needs}
 use Rattle.layout.proofs.calls.level_gray.Statement.{statement}
 use Rattle.layout.proofs.calls.level_gray.Tie as tie
@@ -18,7 +18,9 @@ same-length : tie.Need-same-length
 same-length c = search needs
 
 returns-2 : tie.Need-returns-2
-returns-2 c = search needs
+returns-2 c =
+    let a = c .before .before .before .before .before .before .before .before .args in
+    level-accepted (a .sides) (a .shear .now) (a .shear-x .now) (a .gray .now) (a .out .now) _ (c .before .before .before .before .before .level-question .result) (c .before .before .before .before .before .level-question .ensures) (c .before .before .before .before .if1 .left) (c .before .before .level .ensures)
 
 pub level-gray-spec : {M : Type 1} → statement M
 level-gray-spec =
