@@ -11,7 +11,7 @@ use native.Mathlib.Omega.{arith}
 use lib.Dec.{eqb}
 use lib.ListN.{getD, set, length-set}
 use lib.Seq.{getD-set-same, getD-set-other, drop-set-lt}
-use borrow.Author.Tests.{eq-eqb, ne-eqb}
+use borrow.Author.Tests.{eq-eqb, ne-eqb, eqb-true}
 use Rattle.sets.specs.Parents.{Parents, climb, root, SameRoots, merged, Joined}
 
 climb-same : (p : List ℕ) (k i : ℕ) → getD p i 0 ≡ i → climb p k i ≡ i
@@ -191,3 +191,20 @@ join-swap {n} {p} {q} {a} {b} J =
 -- a pair that doesn't touch is passed over
 pub join-none : {n : ℕ} {p : List ℕ} {a b : ℕ} → Parents n p → Joined n p a b false p
 join-none P = record { parents = P; roots = λ k m. refl; kept = refl }
+
+merged-same : (x k : ℕ) → merged x x k ≡ k
+merged-same x k = go (eqb k (max x x)) refl
+  where
+    go : (t : Bool) → eqb k (max x x) ≡ t → cond t (min x x) k ≡ k
+    go true e = let h = eqb-true k (max x x) e in omega arith
+    go false e = refl
+
+-- indexes with one parent have one root, so their sets are one without a change
+pub join-same : {n : ℕ} {p : List ℕ} {a b : ℕ} → Parents n p → a < n → b < n → getD p a 0 ≡ getD p b 0 → Joined n p a b true p
+join-same {n} {p} {a} {b} P la lb e =
+    let same : root p a ≡ root p b = sym (root-parent P a la) ∙ ap (root p) e ∙ root-parent P b lb in
+    record {
+      parents = P;
+      roots = λ k l. sym (ap (λ (x : ℕ). merged x (root p b) (root p k)) same ∙ merged-same (root p b) (root p k));
+      kept = refl;
+    }

@@ -52,13 +52,15 @@ pub fn join(parents: &mut [u32], n: usize, a: usize, b: usize)
     }
 }
 
-// The same with the decision as a bool, which spares the caller a branch.
+// The same with the decision as a bool, which spares the caller a branch. Two indexes with one parent are in one set already.
 pub fn join_if(parents: &mut [u32], n: usize, a: usize, b: usize, touch: bool)
     requires { ⌜ Parents n (now parents) × (a < n) × (b < n) ⌝ }
     ensures { λ _. ⌜ Joined n (now (parents .entry)) a b touch (now (parents .exit)) ⌝ }
 {
     if touch {
-        join(parents, n, a, b);
+        if parents[a] != parents[b] {
+            join(parents, n, a, b);
+        }
     }
 }
 
