@@ -1,7 +1,8 @@
 // Which pieces touch, and the joining of all that do.
 ghost use mathlib.Core.Path.{_≡_};
-ghost use Prim.Native.Nat.{_+_, _<_, _^_};
-ghost use Rattle.rects.specs.Rects.{count};
+ghost use Prim.Native.Nat.{_+_, _*_, _≤_, _<_, _^_};
+ghost use lib.ListN.{length, getD};
+ghost use Rattle.rects.specs.Rects.{count, rectAt};
 ghost use Rattle.sets.specs.Closed.{Below};
 ghost use Rattle.sets.specs.Joins.{Joins, Seen};
 ghost use Rattle.sets.specs.Parents.{Room};
@@ -46,24 +47,68 @@ fn agree(a: bool, b: bool) -> bool
     if a { b } else { !b }
 }
 
-// Do two pieces touch? The direction of the first is given, and the tests that rule out most pairs come first.
-fn touches(a: Rect, direction: bool, b: Rect, across: u32, gap: u32) -> bool
-    requires { ⌜ Ordered a × Ordered b × (direction ≡ horizontal a) ⌝ }
-    ensures { λ t. ⌜ t ≡ touching across gap a b ⌝ }
+fn number_at(pieces: &[u32], at: usize) -> u32
+    requires { ⌜ at < length (now pieces) ⌝ }
+    ensures { λ r. ⌜ r ≡ getD (now (pieces .entry)) at 0 ⌝ }
+{
+    pieces[at]
+}
+
+// The same of piece j of a list, of which only the numbers that are asked for are read.
+fn centre2_at(pieces: &[u32], j: usize, direction: bool) -> u64
+    requires { ⌜ 4 * j + 4 ≤ length (now pieces) ⌝ }
+    ensures { λ c. ⌜ (c ≡ centreIn direction (rectAt (now (pieces .entry)) j)) × (c < 2 ^ 33) ⌝ }
+{
+    let at = 4 * j;
+    if direction {
+        (number_at(pieces, at + 1) as u64) + (number_at(pieces, at + 3) as u64)
+    } else {
+        (number_at(pieces, at) as u64) + (number_at(pieces, at + 2) as u64)
+    }
+}
+
+fn start_at(pieces: &[u32], j: usize, direction: bool) -> u64
+    requires { ⌜ 4 * j + 4 ≤ length (now pieces) ⌝ }
+    ensures { λ s. ⌜ (s ≡ startIn direction (rectAt (now (pieces .entry)) j)) × (s < 2 ^ 32) ⌝ }
+{
+    let at = 4 * j;
+    if direction {
+        number_at(pieces, at) as u64
+    } else {
+        number_at(pieces, at + 1) as u64
+    }
+}
+
+fn end_at(pieces: &[u32], j: usize, direction: bool) -> u64
+    requires { ⌜ 4 * j + 4 ≤ length (now pieces) ⌝ }
+    ensures { λ e. ⌜ (e ≡ endIn direction (rectAt (now (pieces .entry)) j)) × (e < 2 ^ 32) ⌝ }
+{
+    let at = 4 * j;
+    if direction {
+        number_at(pieces, at + 2) as u64
+    } else {
+        number_at(pieces, at + 3) as u64
+    }
+}
+
+// Does piece j touch a piece? The direction of that one is given, and the tests that rule out most pairs come first.
+fn touches(pieces: &[u32], j: usize, a: Rect, direction: bool, across: u32, gap: u32) -> bool
+    requires { ⌜ (4 * j + 4 ≤ length (now pieces)) × Ordered a × Ordered (rectAt (now pieces) j) × (direction ≡ horizontal a) ⌝ }
+    ensures { λ t. ⌜ t ≡ touching across gap a (rectAt (now (pieces .entry)) j) ⌝ }
 {
     let reach = 2 * (across as u64);
     let ca = centre2(a, direction);
-    let cb = centre2(b, direction);
+    let cb = centre2_at(pieces, j, direction);
     if (ca + reach < cb) | (cb + reach < ca) {
         return false;
     }
     let past = gap as u64 + 1;
-    let ends_before = end(a, direction) + past < start(b, direction);
-    let starts_behind = end(b, direction) + past < start(a, direction);
+    let ends_before = end(a, direction) + past < start_at(pieces, j, direction);
+    let starts_behind = end_at(pieces, j, direction) + past < start(a, direction);
     if ends_before | starts_behind {
         return false;
     }
-    agree(direction, is_horizontal(b))
+    agree(direction, is_horizontal(rects::rect_at(pieces, j)))
 }
 
 // Joins piece i with every later piece that it touches.
@@ -77,7 +122,7 @@ fn join_row(pieces: &[u32], across: u32, gap: u32, parents: &mut [u32], i: usize
     let direction = is_horizontal(a);
     let mut j = i + 1;
     while j < n {
-        let touch = touches(a, direction, rects::rect_at(pieces, j), across, gap);
+        let touch = touches(pieces, j, a, direction, across, gap);
         sets::join_if(parents, n, i, j, touch);
         j += 1;
     }

@@ -38,9 +38,9 @@ turn {pieces} {across} {gap} {i = i} {j = j} t W l long e J =
           (⊎-elim (λ f. e ∙ f) (λ f. e ∙ touching-comm across gap (rectAt pieces i) (rectAt pieces j) ∙ f));
     }
 
--- what was found of a pair that was read from the list
-found : (pieces : List ℕ) (across gap i j : ℕ) {a b : Rect} {t : Bool} → t ≡ touching across gap a b → a ≡ rectAt pieces i → b ≡ rectAt pieces j → t ≡ touch pieces across gap i j
-found pieces across gap i j e p q = rw (← p, ← q) e
+-- what was found of a piece that was read from the list
+found : (pieces : List ℕ) (across gap i j : ℕ) {a : Rect} {t : Bool} → t ≡ touching across gap a (rectAt pieces j) → a ≡ rectAt pieces i → t ≡ touch pieces across gap i j
+found pieces across gap i j e p = rw (← p) e
 
 read : {r s : Rect} → Ordered s → r ≡ s → Ordered r
 read o e = rw e o
@@ -63,29 +63,29 @@ add-j c = omega (arith, c .before .before .before .before .pre .0)
 loop-holds : tie.Need-loop-holds Inv-loop μ-loop
 loop-holds c = record { later = omega arith; up-to = omega (arith, c .before .before .before .before .pre .0); long = refl; seen = c .before .before .before .before .pre .2 }
 
-rect-at-requires-2 : tie.Need-rect-at-requires-2 Inv-loop μ-loop
-rect-at-requires-2 c κs = has-numbers (length (c .before .before .before .before .before .before .args .pieces .now)) (c .before .loop .j) (c .loop-test .taken)
-
 touches-requires : tie.Need-touches-requires Inv-loop μ-loop
-touches-requires c κs = (
-  read (c .before .before .before .before .before .before .before .pre .1 (c .before .before .before .before .before .before .before .args .i) (c .before .before .before .before .before .before .before .pre .0)) (c .before .before .before .before .rect-at .ensures),
-  read (c .before .before .before .before .before .before .before .pre .1 (c .before .before .loop .j) (c .before .loop-test .taken)) (c .rect-at2 .ensures),
-  c .before .before .before .is-horizontal .ensures,
-)
+touches-requires c κs =
+    let all = c .before .before .before .before .before .before .pre .1 in (
+      has-numbers (length (c .before .before .before .before .before .before .args .pieces .now)) (c .before .loop .j) (c .loop-test .taken),
+      read (all (c .before .before .before .before .before .before .args .i) (c .before .before .before .before .before .before .pre .0)) (c .before .before .before .rect-at .ensures),
+      all (c .before .loop .j) (c .loop-test .taken),
+      c .before .before .is-horizontal .ensures,
+    )
 
 join-if-requires : tie.Need-join-if-requires Inv-loop μ-loop
-join-if-requires c κs = (c .before .before .before .before .loop .inv .seen .parents, c .before .before .before .before .before .before .before .before .before .pre .0, c .before .before .before .loop-test .taken)
+join-if-requires c κs = (c .before .before .before .loop .inv .seen .parents, c .before .before .before .before .before .before .before .before .pre .0, c .before .before .loop-test .taken)
 
 add-j-2 : tie.Need-add-j-2 Inv-loop μ-loop
-add-j-2 c = omega (arith, c .before .before .before .before .before .before .loop-test .taken, c .before .before .before .before .before .before .before .before .before .before .before .before .good)
+add-j-2 c = omega (arith, c .before .before .before .before .before .loop-test .taken, c .before .before .before .before .before .before .before .before .before .before .before .good)
 
 loop-less : tie.Need-loop-less Inv-loop μ-loop
-loop-less c = omega (arith, c .before .before .before .before .before .before .loop-test .taken)
+loop-less c = omega (arith, c .before .before .before .before .before .loop-test .taken)
 
 loop-again : tie.Need-loop-again Inv-loop μ-loop
 loop-again c =
-    turn (c .before .before .before .before .touches .result) (c .before .before .before .before .before .before .before .loop .inv) (c .before .before .before .before .before .before .loop-test .taken) (c .before .before .join-if .kept .0)
-    (found (c .before .before .before .before .before .before .before .before .before .before .before .before .args .pieces .now) (c .before .before .before .before .before .before .before .before .before .before .before .before .args .across) (c .before .before .before .before .before .before .before .before .before .before .before .before .args .gap) (c .before .before .before .before .before .before .before .before .before .before .before .before .args .i) (c .before .before .before .before .before .before .before .loop .j) (c .before .before .before .before .touches .ensures) (c .before .before .before .before .before .before .before .before .before .rect-at .ensures) (c .before .before .before .before .before .rect-at2 .ensures)) (c .before .before .join-if .ensures)
+    let a = c .before .before .before .before .before .before .before .before .before .before .before .args in
+    turn (c .before .before .before .before .touches .result) (c .before .before .before .before .before .before .loop .inv) (c .before .before .before .before .before .loop-test .taken) (c .before .before .join-if .kept .0)
+    (found (a .pieces .now) (a .across) (a .gap) (a .i) (c .before .before .before .before .before .before .loop .j) (c .before .before .before .before .touches .ensures) (c .before .before .before .before .before .before .before .before .rect-at .ensures)) (c .before .before .join-if .ensures)
 
 same-length : tie.Need-same-length Inv-loop μ-loop
 same-length c = c .before .loop .inv .long
@@ -105,7 +105,6 @@ join-row-spec =
     is-horizontal-requires
     add-j
     loop-holds
-    rect-at-requires-2
     touches-requires
     join-if-requires
     add-j-2
