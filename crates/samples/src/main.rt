@@ -1,9 +1,11 @@
 // The sample forms of document 01 that are tried by running, and the slips seen in such ports.
 // `stdout` has a line for each, and every one of them ends in "yes".
+mod contrast;
 mod floats;
 
 fn main() {
     floats::run();
+    contrast::run();
 }
 
 // Writes a line: what was tried, and whether it came out right.
