@@ -3,7 +3,8 @@
 
 use std::hint::black_box;
 
-use crate::ffi::{self, SetLists};
+use lanegravel_binding::grouping::{self as ffi, SetLists};
+
 use crate::random::Random;
 use crate::timing::{Times, compare};
 

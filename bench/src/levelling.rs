@@ -2,7 +2,8 @@
 
 use std::hint::black_box;
 
-use crate::ffi_layout::{self as ffi, Page};
+use lanegravel_binding::layout::{self as ffi, Page};
+
 use crate::random::Random;
 use crate::rust_layout::layout;
 use crate::timing::{Times, compare};

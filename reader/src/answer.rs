@@ -7,6 +7,14 @@ pub struct Refused(pub u32);
 /// the refusal.
 pub type Answer = Result<String, Refused>;
 
+/// A refusal, unless the number is 0.
+pub fn accepted(number: u32) -> Result<(), Refused> {
+    match number {
+        0 => Ok(()),
+        missed => Err(Refused(missed)),
+    }
+}
+
 /// The whole answer text.
 pub fn text(answer: &Answer) -> String {
     let lines = match answer {

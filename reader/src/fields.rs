@@ -3,10 +3,11 @@
 use std::collections::BTreeMap;
 use std::io::BufRead;
 
+use lanegravel_binding::settings::RulingsParams;
+
 use crate::Failure;
 use crate::answer::Answer;
-use crate::ffi::{Levelling, Sides};
-use crate::settings::{self, Settings};
+use crate::settings;
 use crate::text::{Line, Lines, Words, show};
 
 /// One kind of text: the lines that it has, and what answers it.
@@ -20,7 +21,7 @@ pub struct Kind {
     /// The `room` lines that may stand among them, each at most once.
     pub rooms: &'static [&'static str],
     /// The library's answer; none while the library has no call for it.
-    pub answer: Option<fn(&Fields) -> Answer>,
+    pub answer: Option<fn(Fields) -> Answer>,
 }
 
 impl Kind {
@@ -40,6 +41,13 @@ impl Kind {
     }
 }
 
+/// The sides of a picture, of any size: question 1 is the library's.
+#[derive(Debug, Default, Clone, Copy)]
+pub struct Sides {
+    pub width: usize,
+    pub height: usize,
+}
+
 /// What the lines of a text say. A field whose line the text's kind doesn't have stays empty.
 #[derive(Debug, Default)]
 pub struct Fields {
@@ -55,7 +63,7 @@ pub struct Fields {
     pub directions: Vec<u32>,
     pub boxes: Vec<u32>,
     pub rects: Vec<u32>,
-    pub settings: Settings,
+    pub settings: RulingsParams,
     pub llr_clip: f64,
     pub group_cap: f64,
     pub gray: Vec<u8>,
@@ -69,7 +77,7 @@ impl Fields {
     /// Takes in the line with this key, whose other words are given.
     fn set(&mut self, key: &str, words: &mut Words) -> Result<(), String> {
         match key.split_once(' ').unwrap_or((key, "")) {
-            ("setting", name) => self.settings.set(name, words)?,
+            ("setting", name) => settings::set(&mut self.settings, name, words)?,
             ("room", name) => {
                 self.rooms.insert(name.into(), words.whole()?);
             }
@@ -99,15 +107,6 @@ impl Fields {
     /// How much is lent under this name: what its line says, or else what question 14 asks.
     pub fn room(&self, name: &str, asked: usize) -> usize {
         *self.rooms.get(name).unwrap_or(&asked)
-    }
-
-    pub fn levelling(&self) -> Levelling<'_> {
-        Levelling {
-            page: self.page,
-            levelled: self.levelled,
-            shear: &self.shear,
-            shear_x: &self.shear_x,
-        }
     }
 }
 

@@ -1,10 +1,9 @@
-//! The binding and the reader over Lanegravel's static library: texts in, answers out
-//! (docs/FORMAT.md). The library decides every question put to a page; nothing here does.
+//! The reader over Lanegravel's static library: texts in, answers out (docs/FORMAT.md). The library decides every question put to a page; nothing here does.
 
 pub mod answer;
 pub mod call;
-pub mod ffi;
 pub mod fields;
+mod levelling;
 pub mod page;
 pub mod settings;
 pub mod text;
@@ -63,7 +62,7 @@ pub fn answer_all(input: impl BufRead, mut output: impl Write) -> Result<(), Fai
     while let Some(asked) = kind {
         let fields = fields::read(&mut lines, asked)?;
         let answer = asked.answer.ok_or(Failure::NotBuilt(asked.name))?;
-        output.write_all(answer::text(&answer(&fields)).as_bytes())?;
+        output.write_all(answer::text(&answer(fields)).as_bytes())?;
         output.flush()?;
         kind = first_line(&mut lines)?;
     }

@@ -37,12 +37,43 @@ fn each_setting_has_its_place() {
     for (place, name) in COUNT_SETTINGS.iter().enumerate() {
         lines[38 + place] = format!("setting {name} {place}");
     }
-    let settings = fields(&lines).settings;
-    assert_eq!(
-        settings.floats.map(|x| x as usize),
-        std::array::from_fn(|i| i)
-    );
-    assert_eq!(settings.counts, [0, 1, 2, 3, 4]);
+    let p = fields(&lines).settings;
+    let floats = [
+        p.merge_across_xh,
+        p.merge_gap_xh,
+        p.rule_min_contrast,
+        p.fold_min_length_in,
+        p.join_tol_xh,
+        p.line_cluster_xh,
+        p.table_prior,
+        p.table_cells_coef,
+        p.table_cells_cap,
+        p.table_junction_coef,
+        p.free_rules_prior,
+        p.free_rules_coef,
+        p.free_rules_cap,
+        p.box_min_xh,
+        p.box_min_in,
+        p.box_max_xh,
+        p.box_overshoot_fraction,
+        p.box_aspect_tol,
+        p.box_edge_coverage,
+        p.box_max_inner_ink,
+        p.box_checked_ink,
+        p.grid_align_xh,
+        p.grid_prior,
+        p.grid_coef,
+        p.grid_cap,
+    ];
+    assert_eq!(floats.map(|x| x as usize), std::array::from_fn(|i| i));
+    let counts = [
+        p.table_min_horizontal,
+        p.table_min_vertical,
+        p.min_free_rules,
+        p.box_tolerance_px,
+        p.grid_min_boxes,
+    ];
+    assert_eq!(counts, [0, 1, 2, 3, 4]);
 }
 
 #[test]
@@ -61,6 +92,6 @@ fn the_ends_of_each_type_fit() {
     assert_eq!(fields.xheight.to_bits(), u64::MAX);
     assert_eq!(fields.shear, [i32::MIN, i32::MAX]);
     assert_eq!(fields.pieces, [u32::MAX, 0, 0]);
-    assert_eq!(fields.settings.counts[4], u32::MAX);
+    assert_eq!(fields.settings.grid_min_boxes, u32::MAX);
     assert_eq!(fields.rooms["findings"], usize::MAX);
 }

@@ -1,8 +1,8 @@
 //! The float steps: `pairwise_sum`, `round_output`, rounding, and the cast of a rounded product.
 
+use lanegravel_binding::floats as ffi;
 use pagetriage::math;
 
-use crate::ffi;
 use crate::random::Random;
 use crate::tally::{Tally, bits, hex_floats};
 use crate::values::{

@@ -1,6 +1,9 @@
 //! Closed sets and order: against a flood fill and `sort_by_key`, with every lent place checked.
 
-use crate::ffi::{self, Answer, SetLists};
+use lanegravel_binding::Answer;
+use lanegravel_binding::grouping::{self as ffi, SetLists};
+
+use crate::flood::{self, flood};
 use crate::random::Random;
 use crate::tally::Tally;
 
@@ -125,31 +128,6 @@ fn lent(random: &mut Random, n: usize) -> SetLists {
     }
 }
 
-/// The sets of indexes that chains of touching ones join, by smallest index.
-pub fn flood(n: usize, touch: impl Fn(usize, usize) -> bool) -> Vec<Vec<u32>> {
-    let mut seen = vec![false; n];
-    let mut sets = Vec::new();
-    for first in 0..n {
-        if seen[first] {
-            continue;
-        }
-        seen[first] = true;
-        let (mut set, mut open) = (vec![first as u32], vec![first]);
-        while let Some(i) = open.pop() {
-            for j in 0..n {
-                if !seen[j] && (touch(i, j) || touch(j, i)) {
-                    seen[j] = true;
-                    set.push(j as u32);
-                    open.push(j);
-                }
-            }
-        }
-        set.sort_unstable();
-        sets.push(set);
-    }
-    sets
-}
-
 /// The answer, and what the lists must hold after it; parents and work are free when accepted.
 fn listed(n: usize, sets: &[Vec<u32>], lists: &SetLists, whole: bool) -> (Answer, SetLists) {
     let mut after = lists.clone();
@@ -163,12 +141,7 @@ fn listed(n: usize, sets: &[Vec<u32>], lists: &SetLists, whole: bool) -> (Answer
             after,
         );
     }
-    let mut at = 0;
-    for (k, set) in sets.iter().enumerate() {
-        after.members[at..at + set.len()].copy_from_slice(set);
-        at += set.len();
-        after.ends[k] = at as u32;
-    }
+    flood::list(sets, &mut after.members, &mut after.ends);
     let count = sets.len();
     (Answer { number: 0, count }, after)
 }

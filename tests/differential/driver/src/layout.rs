@@ -1,9 +1,9 @@
 //! Levelling and the way back to the page: `level_gray`, `to_page`, `rect_to_page`. Pages are small,
 //! their shear tables at and around the limits, and every other page misses a question or several.
 
+use lanegravel_binding::layout::{self as ffi, Page};
 use pagetriage::pixel::layout::Rect;
 
-use crate::ffi_layout::{self as ffi, Page};
 use crate::random::Random;
 use crate::rust_layout::layout;
 use crate::tally::Tally;
@@ -50,9 +50,9 @@ pub fn to_page(random: &mut Random, count: u64) -> Tally {
             }
             number => [number.into(), 0, 0],
         };
-        tally.compare(&expected, &ffi::to_page(&page, x, y), || {
-            format!("{page:?} place {x} {y}")
-        });
+        let mapped = ffi::to_page(&page, x, y);
+        let found = [mapped.number.into(), mapped.x as u64, mapped.y as u64];
+        tally.compare(&expected, &found, || format!("{page:?} place {x} {y}"));
     }
     tally
 }
@@ -71,11 +71,11 @@ pub fn rect_to_page(random: &mut Random, count: u64) -> Tally {
             }
             number => [number.into(), 0, 0, 0, 0],
         };
-        tally.compare(
-            &expected,
-            &ffi::rect_to_page(&page, [x0, y0, x1, y1]),
-            || format!("{page:?} rectangle {x0} {y0} {x1} {y1}"),
-        );
+        let m = ffi::rect_to_page(&page, [x0, y0, x1, y1]);
+        let found = [m.number, m.x0, m.y0, m.x1, m.y1].map(u64::from);
+        tally.compare(&expected, &found, || {
+            format!("{page:?} rectangle {x0} {y0} {x1} {y1}")
+        });
     }
     tally
 }

@@ -3,28 +3,12 @@
 //!     differential [--seed N] [--count N]    compare; status 1 where any answer differs
 //!     differential --replay DIR              write a fixed sample of the Rust's answers
 
-mod ffi;
-mod ffi_layout;
-mod ffi_segments;
-mod ffi_tables;
-mod floats;
-mod grouping;
-mod layout;
-mod params;
-mod pieces;
-mod random;
-mod replay;
-mod rust_layout;
-mod segments;
-mod tables;
-mod tally;
-mod values;
-
 use std::path::Path;
 use std::process::ExitCode;
 
-use random::Random;
-use tally::Tally;
+use differential::random::Random;
+use differential::tally::Tally;
+use differential::{floats, grouping, layout, params, replay, segments, tables};
 
 /// One call of the library, with the number of random cases that it is tried on.
 struct Comparison {

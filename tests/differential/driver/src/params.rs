@@ -1,9 +1,9 @@
 //! Questions 7 to 13: the settings. `RulingsParams::validate` only accepts or refuses, so the number
 //! of the first missed question is held against a computation in document 01's words.
 
+use lanegravel_binding::settings::{self as ffi, FusionParams, RulingsParams};
 use pagetriage::pixel::rulings;
 
-use crate::ffi::{self, FusionParams, RulingsParams};
 use crate::random::Random;
 use crate::tally::{Tally, hex_floats};
 use crate::values::any;

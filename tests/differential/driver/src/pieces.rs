@@ -1,6 +1,8 @@
 //! Pages of rule pieces for the comparison of `segments`, and their closed sets by a flood fill.
 
-use crate::ffi_segments::Page;
+use lanegravel_binding::segments::Page;
+
+use crate::flood::flood;
 use crate::params::VALID;
 use crate::random::Random;
 
@@ -12,35 +14,16 @@ pub fn rects(page: &Page) -> impl Iterator<Item = [u32; 4]> {
 }
 
 /// The closed sets of pieces, members ascending, in the order of their rulings.
-pub fn closed_sets(page: &Page) -> Vec<Vec<usize>> {
+pub fn closed_sets(page: &Page) -> Vec<Vec<u32>> {
     let pieces: Vec<[u32; 4]> = rects(page).collect();
     let across = limit(page.params.merge_across_xh, page.xheight);
     let gap = limit(page.params.merge_gap_xh, page.xheight);
-    let mut seen = vec![false; pieces.len()];
-    let mut sets: Vec<Vec<usize>> = Vec::new();
-    for first in 0..pieces.len() {
-        if seen[first] {
-            continue;
-        }
-        seen[first] = true;
-        let mut set = vec![first];
-        let mut next = 0;
-        while next < set.len() {
-            let a = pieces[set[next]];
-            for j in 0..pieces.len() {
-                if !seen[j] && touching(a, pieces[j], across, gap) {
-                    seen[j] = true;
-                    set.push(j);
-                }
-            }
-            next += 1;
-        }
-        set.sort_unstable();
-        sets.push(set);
-    }
+    let mut sets = flood(pieces.len(), |i, j| {
+        touching(pieces[i], pieces[j], across, gap)
+    });
     sets.sort_by_key(|set| {
-        let least = |c: usize| set.iter().map(|&i| pieces[i][c]).min();
-        let greatest = |c: usize| set.iter().map(|&i| pieces[i][c]).max();
+        let least = |c: usize| set.iter().map(|&i| pieces[i as usize][c]).min();
+        let greatest = |c: usize| set.iter().map(|&i| pieces[i as usize][c]).max();
         (least(1), least(0), greatest(3), greatest(2))
     });
     sets

@@ -1,8 +1,7 @@
 //! The Rust's layout, by its public fields.
 
+use lanegravel_binding::layout::Page;
 use pagetriage::pixel::layout::{Layout, Rect};
-
-use crate::ffi_layout::Page;
 
 /// A page for levelling.
 pub fn layout(page: &Page) -> Layout {

@@ -1,9 +1,10 @@
 //! Pieces to rulings: `segments`, against the unchanged Rust to the bit, its sets against a plain
 //! flood fill. Pages are small and of many kinds; every fourth one misses a question or several.
 
+use lanegravel_binding::segments::{self as ffi, Lent, Page};
 use pagetriage::pixel::rulings;
 
-use crate::ffi_segments::{self as ffi, Lent, Page};
+use crate::flood;
 use crate::params::{self, VALID};
 use crate::pieces;
 use crate::random::Random;
@@ -81,14 +82,7 @@ fn accepted(page: &Page, lent: &Lent) -> Vec<u64> {
     let segments = rulings::segments(&layout, &page.raster, &params::rust(&page.params));
     let sets = pieces::closed_sets(page);
     let mut written = lent.clone();
-    let mut end = 0;
-    for (k, set) in sets.iter().enumerate() {
-        for &i in set {
-            written.members[end] = i as u32;
-            end += 1;
-        }
-        written.ends[k] = end as u32;
-    }
+    flood::list(&sets, &mut written.members, &mut written.ends);
     for (k, s) in segments.iter().enumerate() {
         let r = &s.rect;
         written.rects[4 * k..4 * k + 4].copy_from_slice(&[r.x0, r.y0, r.x1, r.y1]);
@@ -143,7 +137,7 @@ fn lend(random: &mut Random, page: &Page) -> Lent {
 }
 
 /// The number of the first missed question of document 01, said here in plain Rust.
-fn question(page: &Page, lent: &Lent) -> u32 {
+pub fn question(page: &Page, lent: &Lent) -> u32 {
     let side = |n: usize| (1..=LARGEST_SIDE).contains(&n);
     let n = page.pieces.len() / 4;
     let inside = |[x0, y0, x1, y1]: [u32; 4]| {

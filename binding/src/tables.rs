@@ -1,6 +1,6 @@
-//! The call about tables, as include/lanegravel.h declares it.
+//! The call about tables.
 
-use crate::ffi::RulingsParams;
+use crate::settings::RulingsParams;
 
 unsafe extern "C" {
     fn lanegravel_tables(
@@ -66,6 +66,27 @@ pub struct TablesLists {
     pub keys: Vec<u64>,
 }
 
+impl TablesLists {
+    /// Room for this many tables, and this many entries in each other list.
+    pub fn with_room(tables: usize, index: usize) -> Self {
+        TablesLists {
+            members: vec![0; index],
+            ends: vec![0; index],
+            numbers: vec![0; tables],
+            bounds: vec![0; 4 * tables],
+            rows: vec![0; tables],
+            columns: vec![0; tables],
+            rulings: vec![0; tables],
+            shares: vec![0.0; tables],
+            free: vec![0; index],
+            chosen: vec![0; index],
+            parents: vec![0; index],
+            work: vec![0; index],
+            keys: vec![0; index],
+        }
+    }
+}
+
 pub fn tables(
     xheight: f64,
     p: &RulingsParams,
@@ -73,8 +94,7 @@ pub fn tables(
     directions: &[u32],
     l: &mut TablesLists,
 ) -> TablesAnswer {
-    // SAFETY: every pointer is aligned, also for an empty list, the lists don't overlap, and all
-    // live through the call.
+    // SAFETY: as lib.rs says.
     unsafe {
         lanegravel_tables(
             xheight,

@@ -1,4 +1,4 @@
-//! The calls about levelling and the way back to the page, as include/lanegravel.h declares them.
+//! The calls about levelling and the way back to the page.
 
 /// What the calls are given of a page.
 #[derive(Clone, Debug, Default)]
@@ -55,24 +55,26 @@ unsafe extern "C" {
     ) -> MappedArea;
 }
 
+/// The number, and the place on the page or outside it.
 #[repr(C)]
-struct MappedPlace {
-    number: u32,
-    x: i64,
-    y: i64,
+pub struct MappedPlace {
+    pub number: u32,
+    pub x: i64,
+    pub y: i64,
 }
 
+/// The number, and the rectangle on the page.
 #[repr(C)]
-struct MappedArea {
-    number: u32,
-    x0: u32,
-    y0: u32,
-    x1: u32,
-    y1: u32,
+pub struct MappedArea {
+    pub number: u32,
+    pub x0: u32,
+    pub y0: u32,
+    pub x1: u32,
+    pub y1: u32,
 }
 
 pub fn level_gray(page: &Page, out: &mut [u8]) -> u32 {
-    // SAFETY: each pointer is aligned and goes with its own count; `out` overlaps nothing.
+    // SAFETY: as lib.rs says.
     unsafe {
         lanegravel_level_gray(
             page.page_width,
@@ -91,10 +93,10 @@ pub fn level_gray(page: &Page, out: &mut [u8]) -> u32 {
     }
 }
 
-/// The number, column and row.
-pub fn to_page(page: &Page, x: u32, y: u32) -> [u64; 3] {
-    // SAFETY: each pointer is aligned and goes with its own count.
-    let mapped = unsafe {
+/// Where a levelled place lies on the page.
+pub fn to_page(page: &Page, x: u32, y: u32) -> MappedPlace {
+    // SAFETY: as lib.rs says.
+    unsafe {
         lanegravel_to_page(
             page.page_width,
             page.page_height,
@@ -107,14 +109,13 @@ pub fn to_page(page: &Page, x: u32, y: u32) -> [u64; 3] {
             x,
             y,
         )
-    };
-    [mapped.number.into(), mapped.x as u64, mapped.y as u64]
+    }
 }
 
-/// The number, then x0, y0, x1, y1.
-pub fn rect_to_page(page: &Page, [x0, y0, x1, y1]: [u32; 4]) -> [u64; 5] {
-    // SAFETY: each pointer is aligned and goes with its own count.
-    let mapped = unsafe {
+/// The rectangle on the page of a levelled rectangle.
+pub fn rect_to_page(page: &Page, [x0, y0, x1, y1]: [u32; 4]) -> MappedArea {
+    // SAFETY: as lib.rs says.
+    unsafe {
         lanegravel_rect_to_page(
             page.page_width,
             page.page_height,
@@ -129,6 +130,5 @@ pub fn rect_to_page(page: &Page, [x0, y0, x1, y1]: [u32; 4]) -> [u64; 5] {
             x1,
             y1,
         )
-    };
-    [mapped.number, mapped.x0, mapped.y0, mapped.x1, mapped.y1].map(u64::from)
+    }
 }

@@ -1,6 +1,7 @@
-//! The call about rulings, as include/lanegravel.h declares it.
+//! The call about rulings.
 
-use crate::ffi::RulingsParams;
+use crate::Answer;
+use crate::settings::RulingsParams;
 
 /// What the call is given.
 #[derive(Clone, Debug)]
@@ -28,10 +29,22 @@ pub struct Lent {
     pub keys: Vec<u64>,
 }
 
-#[repr(C)]
-pub struct Answer {
-    pub number: u32,
-    pub count: usize,
+impl Lent {
+    /// Room for this many rulings, and this many entries in each other list.
+    pub fn with_room(rulings: usize, index: usize) -> Self {
+        Lent {
+            rects: vec![0; 4 * rulings],
+            directions: vec![0; rulings],
+            contrasts: vec![0.0; rulings],
+            members: vec![0; index],
+            ends: vec![0; index],
+            parents: vec![0; index],
+            listed: vec![0; index],
+            listed_ends: vec![0; index],
+            work: vec![0; index],
+            keys: vec![0; index],
+        }
+    }
 }
 
 unsafe extern "C" {
@@ -68,7 +81,7 @@ unsafe extern "C" {
 }
 
 pub fn segments(page: &Page, lent: &mut Lent) -> Answer {
-    // SAFETY: each pointer is aligned and goes with its own count; the lent lists overlap nothing.
+    // SAFETY: as lib.rs says.
     unsafe {
         lanegravel_segments(
             page.raster.as_ptr(),

@@ -1,0 +1,21 @@
+//! The calls of the static library, as include/lanegravel.h declares them, over slices and lists.
+//! Whoever depends on this links the library.
+//!
+//! Every call is safe to make with any values: a list's pointer is aligned and not null, also where
+//! the list is empty; it goes with its own count; what it points to lives through the call; and
+//! lists that are written overlap nothing, since Rust lends each of them once.
+
+pub mod floats;
+pub mod grouping;
+pub mod layout;
+pub mod segments;
+pub mod settings;
+pub mod tables;
+
+/// The number of the first missed question, 0 where none is, and how many records were listed.
+#[repr(C)]
+#[derive(Clone, Copy, Debug, PartialEq)]
+pub struct Answer {
+    pub number: u32,
+    pub count: usize,
+}

@@ -1,0 +1,16 @@
+//! What the comparisons are made of; `bench` uses its inputs too.
+
+pub mod floats;
+pub mod flood;
+pub mod grouping;
+pub mod layout;
+pub mod params;
+pub mod pieces;
+pub mod random;
+pub mod replay;
+pub mod ruled;
+pub mod rust_layout;
+pub mod segments;
+pub mod tables;
+pub mod tally;
+pub mod values;
