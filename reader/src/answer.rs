@@ -39,6 +39,26 @@ pub fn raster(key: &str, bytes: &[u8]) -> String {
     format!("{key} {} {:016x}\n", bytes.len(), fnv1a(bytes))
 }
 
+/// The line of a list: its count, and its entries.
+pub fn list(key: &str, entries: &[u32]) -> String {
+    let mut line = format!("{key} {}", entries.len());
+    for entry in entries {
+        line += &format!(" {entry}");
+    }
+    line + "\n"
+}
+
+/// The lines of a listing of sets: how many there are, and the members of each.
+pub fn sets(key: &str, members: &[u32], ends: &[u32]) -> String {
+    let mut lines = format!("{key}s {}\n", ends.len());
+    let mut start = 0;
+    for end in ends.iter().map(|end| *end as usize) {
+        lines += &list(key, &members[start..end]);
+        start = end;
+    }
+    lines
+}
+
 /// FNV-1a of 64 bits.
 fn fnv1a(bytes: &[u8]) -> u64 {
     bytes.iter().fold(0xcbf2_9ce4_8422_2325, |hash, byte| {

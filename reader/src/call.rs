@@ -8,6 +8,7 @@ use crate::Failure;
 use crate::answer::{Answer, float};
 use crate::fields::{Fields, Kind};
 use crate::levelling::{level, map};
+use crate::rulings::{segments, tables};
 use crate::text::{Line, Lines, show};
 
 const CALLS: [Kind; 7] = [
@@ -23,14 +24,14 @@ const CALLS: [Kind; 7] = [
         keys: &["levelled", "xheight", "pieces", "raster"],
         settings: true,
         rooms: &["rulings", "index_pieces"],
-        answer: None,
+        answer: Some(segments),
     },
     Kind {
         name: "call tables",
         keys: &["xheight", "rulings", "directions"],
         settings: true,
         rooms: &["tables", "index_pieces"],
-        answer: None,
+        answer: Some(tables),
     },
     Kind {
         name: "call boxes",

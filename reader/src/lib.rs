@@ -5,6 +5,7 @@ pub mod call;
 pub mod fields;
 mod levelling;
 pub mod page;
+mod rulings;
 pub mod settings;
 pub mod text;
 

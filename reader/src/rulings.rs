@@ -1,0 +1,60 @@
+//! The calls about rulings: `segments` and `tables`.
+
+use lanegravel_binding::segments::{self, Lent, Page};
+use lanegravel_binding::tables::{self, TablesLists};
+
+use crate::answer::{Answer, accepted, float, list, sets};
+use crate::fields::Fields;
+
+/// The most records and entries that are lent: as many as any accepted page can use. Lending more
+/// would change no answer.
+const MOST_RULINGS: usize = 4096;
+
+pub fn segments(fields: Fields) -> Answer {
+    let pieces = fields.pieces.len() / 4;
+    let room = |name| fields.room(name, pieces).min(MOST_RULINGS);
+    let mut lent = Lent::with_room(room("rulings"), room("index_pieces"));
+    let page = Page {
+        width: fields.levelled.width,
+        height: fields.levelled.height,
+        xheight: fields.xheight,
+        raster: fields.raster,
+        pieces: fields.pieces,
+        params: fields.settings,
+    };
+    let answer = segments::segments(&page, &mut lent);
+    accepted(answer.number)?;
+    let mut lines = format!("rulings {}\n", answer.count);
+    for (k, rect) in lent.rects.chunks(4).take(answer.count).enumerate() {
+        let contrast = float(lent.contrasts[k]);
+        let direction = lent.directions[k];
+        let [x0, y0, x1, y1] = [rect[0], rect[1], rect[2], rect[3]];
+        lines += &format!("ruling {x0} {y0} {x1} {y1} {direction} {contrast}\n");
+    }
+    let ends = &lent.ends[..answer.count];
+    Ok(lines + &sets("pieceset", &lent.members, ends))
+}
+
+pub fn tables(fields: Fields) -> Answer {
+    let rulings = fields.rulings.len() / 4;
+    let room = |name| fields.room(name, rulings).min(MOST_RULINGS);
+    let mut lent = TablesLists::with_room(room("tables"), room("index_pieces"));
+    let answer = tables::tables(
+        fields.xheight,
+        &fields.settings,
+        &fields.rulings,
+        &fields.directions,
+        &mut lent,
+    );
+    accepted(answer.number)?;
+    let mut lines = format!("tables {}\n", answer.tables);
+    for (k, rect) in lent.bounds.chunks(4).take(answer.tables).enumerate() {
+        let (rows, columns, rulings) = (lent.rows[k], lent.columns[k], lent.rulings[k]);
+        let share = float(lent.shares[k]);
+        let [x0, y0, x1, y1] = [rect[0], rect[1], rect[2], rect[3]];
+        lines += &format!("table {x0} {y0} {x1} {y1} {rows} {columns} {rulings} {share}\n");
+    }
+    lines += &list("free", &lent.free[..answer.free]);
+    let ends = &lent.ends[..answer.sets];
+    Ok(lines + &sets("printedset", &lent.members, ends))
+}
