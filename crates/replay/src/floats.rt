@@ -2,7 +2,7 @@
 use crate::words;
 use crate::words::Word;
 
-fn float_of(bits: u64) -> f64 {
+pub fn float_of(bits: u64) -> f64 {
     if 0x7ff0_0000_0000_0000 < bits % 0x8000_0000_0000_0000 {
         0.0 / 0.0
     } else {
@@ -10,7 +10,7 @@ fn float_of(bits: u64) -> f64 {
     }
 }
 
-fn bits_of(x: f64) -> u64 {
+pub fn bits_of(x: f64) -> u64 {
     if x != x {
         0x7ff8_0000_0000_0000
     } else {
@@ -28,7 +28,7 @@ fn bits_of_whole(z: i64) -> u64 {
 }
 
 // Fills `out` with the floats of the words from `at` on, and returns the place past them.
-fn read_floats(text: &[u8], at: usize, out: &mut [f64]) -> usize {
+pub fn read_floats(text: &[u8], at: usize, out: &mut [f64]) -> usize {
     let mut next = at;
     let mut i = 0;
     while i < out.len() {

@@ -4,7 +4,11 @@
 use words::Word;
 
 mod floats;
+mod pieces;
+mod rulings;
+mod settings;
 mod words;
+mod written;
 
 fn main() {
     let mut text = [0u8; 262144];
@@ -34,6 +38,8 @@ fn answer(text: &[u8], at: usize) -> usize {
         2 => print(floats::round_output(text, next)),
         3 => print(floats::rounded_product(text, next)),
         4 => print(floats::round(text, next)),
+        5 => pieces::segments(text, next),
+        6 => rulings::tables(text, next),
         _ => text.len(),
     }
 }

@@ -46,3 +46,39 @@ pub fn at_most(n: u64, room: usize) -> usize
 {
     if n < room as u64 { n as usize } else { room }
 }
+
+// A number of 32 bits: the low ones of a word.
+pub fn whole_of(value: u64) -> u32 {
+    (value % 0x1_0000_0000) as u32
+}
+
+// A byte: the low bits of a word.
+fn byte_of(value: u64) -> u8 {
+    (value % 256) as u8
+}
+
+// Fills `out` with the numbers of the words from `at` on, and returns the place past them.
+pub fn read_wholes(text: &[u8], at: usize, out: &mut [u32]) -> usize {
+    let mut next = at;
+    let mut i = 0;
+    while i < out.len() {
+        let w = read_word(text, next);
+        out[i] = whole_of(w.value);
+        next = w.next;
+        i += 1;
+    }
+    next
+}
+
+// The same for bytes.
+pub fn read_bytes(text: &[u8], at: usize, out: &mut [u8]) -> usize {
+    let mut next = at;
+    let mut i = 0;
+    while i < out.len() {
+        let w = read_word(text, next);
+        out[i] = byte_of(w.value);
+        next = w.next;
+        i += 1;
+    }
+    next
+}

@@ -8,6 +8,7 @@ pub mod params;
 pub mod pieces;
 pub mod random;
 pub mod replay;
+mod replay_pages;
 pub mod ruled;
 pub mod rust_layout;
 pub mod segments;

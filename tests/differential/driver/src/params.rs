@@ -217,7 +217,7 @@ fn around_limits() -> Vec<f64> {
 }
 
 /// The 25 float settings.
-fn floats(p: &mut RulingsParams) -> [&mut f64; 25] {
+pub fn floats(p: &mut RulingsParams) -> [&mut f64; 25] {
     [
         &mut p.merge_across_xh,
         &mut p.merge_gap_xh,
@@ -248,7 +248,7 @@ fn floats(p: &mut RulingsParams) -> [&mut f64; 25] {
 }
 
 /// The five count settings.
-fn counts(p: &mut RulingsParams) -> [&mut u32; 5] {
+pub fn counts(p: &mut RulingsParams) -> [&mut u32; 5] {
     [
         &mut p.table_min_horizontal,
         &mut p.table_min_vertical,

@@ -8,11 +8,12 @@ use pagetriage::math;
 
 use crate::floats;
 use crate::random::Random;
+use crate::replay_pages as pages;
 use crate::tally::{bits, hex, hex_floats};
 use crate::values::LANDMARKS;
 
 #[derive(Default)]
-struct Sample {
+pub struct Sample {
     calls: String,
     answers: String,
     lines: usize,
@@ -20,9 +21,13 @@ struct Sample {
 
 impl Sample {
     fn add(&mut self, call: &str, answer: u64) {
+        self.add_line(call, &hex(&[answer]));
+    }
+
+    pub fn add_line(&mut self, call: &str, answer: &str) {
         self.calls += call;
         self.calls += "\n";
-        self.answers += &hex(&[answer]);
+        self.answers += answer;
         self.answers += "\n";
         self.lines += 1;
     }
@@ -60,6 +65,8 @@ pub fn write(dir: &Path) -> io::Result<usize> {
     add_sums(&mut sample, random);
     add_landmarks(&mut sample);
     add_random(&mut sample, random);
+    pages::add_segments(&mut sample, random);
+    pages::add_tables(&mut sample, random);
     fs::create_dir_all(dir)?;
     fs::write(dir.join("stdin"), sample.calls)?;
     fs::write(dir.join("stdout"), sample.answers)?;

@@ -49,7 +49,8 @@ fn compare(random: &mut Random, tally: &mut Tally, page: &Page) {
     let answer = ffi::segments(page, &mut found);
     let number = question(page, &lent);
     let (expected, library) = if number == 0 {
-        let expected = accepted(page, &lent);
+        let (count, written) = accepted(page, &lent);
+        let expected = answers(0, count, &written);
         (expected, answers(answer.number, answer.count, &found))
     } else {
         let kept = [answers(number, 0, &lent), work(&lent)].concat();
@@ -76,8 +77,9 @@ fn work(lent: &Lent) -> Vec<u64> {
     words.chain(lent.keys.iter().copied()).collect()
 }
 
-/// What an accepted page answers: the Rust's segments, and the sets of a flood fill in their order.
-fn accepted(page: &Page, lent: &Lent) -> Vec<u64> {
+/// What an accepted page answers, the count and the lists: the Rust's segments, and the sets of a
+/// flood fill in their order.
+pub fn accepted(page: &Page, lent: &Lent) -> (usize, Lent) {
     let layout = with_rules(page.width, page.height, page.xheight, &page.pieces);
     let segments = rulings::segments(&layout, &page.raster, &params::rust(&page.params));
     let sets = pieces::closed_sets(page);
@@ -94,7 +96,7 @@ fn accepted(page: &Page, lent: &Lent) -> Vec<u64> {
     } else {
         usize::MAX
     };
-    answers(0, count, &written)
+    (count, written)
 }
 
 /// Lists with room and sometimes more, filled with a pattern; now and then one entry short.
@@ -165,7 +167,7 @@ pub fn question(page: &Page, lent: &Lent) -> u32 {
 }
 
 /// One change that may miss a question.
-fn spoil(random: &mut Random, page: &mut Page) {
+pub fn spoil(random: &mut Random, page: &mut Page) {
     let huge = [0, LARGEST_SIDE + 1, 1 << 40, usize::MAX];
     match random.below(12) {
         0 => page.width = random.pick(&huge),

@@ -102,7 +102,8 @@ fn compare(tally: &mut Tally, page: &Page, before: TablesLists) {
     ];
     let mut expected = vec![u64::from(number), 0, 0, 0];
     if number == 0 {
-        let wanted = wanted(page, &before, &mut expected);
+        let (counts, wanted) = wanted(page, &before);
+        expected[1..].copy_from_slice(&counts.map(|n| n as u64));
         expected.extend(words(&wanted, false));
         found.extend(words(&after, false));
     } else {
@@ -122,8 +123,8 @@ pub fn segments(rects: &[u32], directions: &[u32]) -> Vec<rulings::Segment> {
     rects.chunks(4).zip(directions).map(ruling).collect()
 }
 
-/// The lists as the Rust's answers leave them, and the counts.
-fn wanted(page: &Page, before: &TablesLists, counts: &mut [u64]) -> TablesLists {
+/// How many sets, tables and free rulings there are, and the lists as the Rust's answers leave them.
+pub fn wanted(page: &Page, before: &TablesLists) -> ([usize; 3], TablesLists) {
     let segments = segments(&page.rects, &page.directions);
     let (tables, leftover) = rulings::tables(&segments, page.xheight, &params::rust(&page.p));
     let sets = ruled::closed_sets(page);
@@ -146,12 +147,7 @@ fn wanted(page: &Page, before: &TablesLists, counts: &mut [u64]) -> TablesLists 
     for (k, &i) in leftover.iter().enumerate() {
         l.free[k] = i as u32;
     }
-    counts[1..].copy_from_slice(&[
-        sets.len() as u64,
-        tables.len() as u64,
-        leftover.len() as u64,
-    ]);
-    l
+    ([sets.len(), tables.len(), leftover.len()], l)
 }
 
 /// Every place of the lists; the work lists only where they must be as they were.

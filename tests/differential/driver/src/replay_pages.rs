@@ -1,0 +1,135 @@
+//! The pages of the replayed sample: small ones, so that a program without a heap can hold them.
+
+use lanegravel_binding::segments::Lent;
+use lanegravel_binding::settings::RulingsParams;
+use lanegravel_binding::tables::TablesLists;
+
+use crate::random::Random;
+use crate::replay::Sample;
+use crate::tally::bits;
+use crate::{params, pieces, ruled, segments, tables};
+
+/// How many pages of each call there are, accepted and spoilt ones by turns of three.
+const PAGES: usize = 48;
+
+/// The most that the program has room for: numbers of rectangles, directions, and here of pixels.
+const RECTS: usize = 64;
+const DIRECTIONS: usize = 20;
+const PIXELS: usize = 200;
+
+/// Room for as many records as `RECTS` has.
+const ROOM: usize = RECTS / 4;
+
+/// Words in hex, each behind a space.
+#[derive(Default)]
+struct Line(String);
+
+impl Line {
+    fn word(&mut self, word: u64) {
+        self.0 += &format!(" {word:x}");
+    }
+
+    fn wholes(&mut self, list: &[u32]) {
+        list.iter().for_each(|&x| self.word(x.into()));
+    }
+
+    fn floats(&mut self, list: &[f64]) {
+        list.iter().for_each(|&x| self.word(bits(x)));
+    }
+
+    fn list(&mut self, list: &[u32]) {
+        self.word(list.len() as u64);
+        self.wholes(list);
+    }
+
+    /// The x-height, the 25 floats, the five counts.
+    fn settings(&mut self, xheight: f64, p: &RulingsParams) {
+        let mut p = *p;
+        self.floats(&[xheight]);
+        self.floats(&params::floats(&mut p).map(|x| *x));
+        self.wholes(&params::counts(&mut p).map(|x| *x));
+    }
+}
+
+pub fn add_segments(sample: &mut Sample, random: &mut Random) {
+    let mut added = 0;
+    while added < PAGES {
+        let mut page = pieces::small(random);
+        if added % 3 == 2 {
+            segments::spoil(random, &mut page);
+        }
+        if page.raster.len() > PIXELS || page.pieces.len() > RECTS {
+            continue;
+        }
+        let mut call = Line("5".into());
+        call.word(page.width as u64);
+        call.word(page.height as u64);
+        call.settings(page.xheight, &page.params);
+        call.list(&page.pieces);
+        call.list(&page.raster.iter().map(|&x| x.into()).collect::<Vec<_>>());
+        sample.add_line(&call.0, &rulings(&page).0);
+        added += 1;
+    }
+}
+
+/// The number, the count, then list after list.
+fn rulings(page: &lanegravel_binding::segments::Page) -> Line {
+    let mut line = Line::default();
+    let lent = Lent::with_room(ROOM, ROOM);
+    let number = segments::question(page, &lent);
+    line.word(number.into());
+    if number != 0 {
+        line.word(0);
+        return line;
+    }
+    let (count, l) = segments::accepted(page, &lent);
+    line.word(count as u64);
+    line.wholes(&l.rects[..4 * count]);
+    line.wholes(&l.directions[..count]);
+    line.floats(&l.contrasts[..count]);
+    line.wholes(&l.ends[..count]);
+    line.wholes(&l.members[..page.pieces.len() / 4]);
+    line
+}
+
+pub fn add_tables(sample: &mut Sample, random: &mut Random) {
+    let mut added = 0;
+    while added < PAGES {
+        let mut page = ruled::page(random);
+        if added % 3 == 2 {
+            ruled::spoil(random, &mut page);
+        }
+        if page.rects.len() > RECTS || page.directions.len() > DIRECTIONS {
+            continue;
+        }
+        let mut call = Line("6".into());
+        call.settings(page.xheight, &page.p);
+        call.list(&page.rects);
+        call.list(&page.directions);
+        sample.add_line(&call.0, &found(&page).0);
+        added += 1;
+    }
+}
+
+/// The number and the tables, list by list, the free list, the sets.
+fn found(page: &ruled::Page) -> Line {
+    let mut line = Line::default();
+    let number = ruled::question(page, true);
+    line.word(number.into());
+    if number != 0 {
+        line.wholes(&[0, 0, 0]);
+        return line;
+    }
+    let ([sets, tables, free], l) = tables::wanted(page, &TablesLists::with_room(ROOM, ROOM));
+    line.word(tables as u64);
+    line.wholes(&l.numbers[..tables]);
+    line.wholes(&l.bounds[..4 * tables]);
+    line.wholes(&l.rows[..tables]);
+    line.wholes(&l.columns[..tables]);
+    line.wholes(&l.rulings[..tables]);
+    line.floats(&l.shares[..tables]);
+    line.list(&l.free[..free]);
+    line.list(&l.ends[..sets]);
+    line.wholes(&l.members[..page.directions.len()]);
+    line
+}
