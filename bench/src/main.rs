@@ -4,6 +4,7 @@
 
 mod grouping;
 mod levelling;
+mod rulings;
 mod stages;
 mod timing;
 
@@ -17,6 +18,7 @@ fn main() {
     let all = grouping::MEASUREMENTS
         .into_iter()
         .chain(levelling::MEASUREMENTS)
+        .chain(rulings::MEASUREMENTS)
         .chain(stages::MEASUREMENTS);
     for (name, measure) in all {
         if name.contains(only.as_str()) {

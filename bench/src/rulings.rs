@@ -1,0 +1,89 @@
+//! Pieces to rulings: a page as a scanner gives it, and one where all pieces touch.
+
+use std::hint::black_box;
+
+use lanegravel_binding::segments::{self as ffi, Lent, Page};
+use pagetriage::pixel::rulings;
+
+use crate::params::{self, VALID};
+use crate::random::Random;
+use crate::rust_layout::with_rules;
+use crate::timing::{Times, compare};
+
+pub const MEASUREMENTS: [(&str, fn() -> Times); 2] = [
+    ("rulings, a page of 300 pieces, its rules drawn", || {
+        join(drawn_page())
+    }),
+    ("rulings, 4,096 pieces, all touching", || {
+        join(page(4_096, 64, [10, 30, 40, 31].repeat(4_096)))
+    }),
+];
+
+/// Five tables of 9 rows and 4 columns on A4 at 300 dots an inch, each rule in four pieces that lie
+/// up to a pixel apart and are darker than the paper.
+fn drawn_page() -> Page {
+    let random = &mut Random::new(1);
+    let mut page = page(2_480, 3_508, Vec::new());
+    page.raster.fill_with(|| 215 + random.below(41) as u8);
+    for top in (0..5).map(|table| 150 + 660 * table) {
+        for y in (0..10).map(|row| top + 60 * row) {
+            for x in (0..4).map(|part| 200 + 520 * part) {
+                draw(random, &mut page, [x, y, x + 512, y + 2]);
+            }
+        }
+        for x in (0..5).map(|column| 200 + 519 * column) {
+            for y in (0..4).map(|part| top + 135 * part) {
+                draw(random, &mut page, [x, y, x + 2, y + 128]);
+            }
+        }
+    }
+    page
+}
+
+/// One piece, moved by up to a pixel across its rule.
+fn draw(random: &mut Random, page: &mut Page, [x0, y0, x1, y1]: [u32; 4]) {
+    let across = random.below(2) as u32;
+    let (right, down) = if x1 - x0 > y1 - y0 {
+        (0, across)
+    } else {
+        (across, 0)
+    };
+    let (x0, y0, x1, y1) = (x0 + right, y0 + down, x1 + right, y1 + down);
+    for y in y0..=y1 {
+        for x in x0..=x1 {
+            page.raster[y as usize * page.width + x as usize] = random.below(90) as u8;
+        }
+    }
+    page.pieces.extend([x0, y0, x1, y1]);
+}
+
+fn page(width: usize, height: usize, pieces: Vec<u32>) -> Page {
+    let mut random = Random::new(1);
+    Page {
+        width,
+        height,
+        xheight: 24.0,
+        raster: (0..width * height).map(|_| random.bits() as u8).collect(),
+        pieces,
+        params: VALID,
+    }
+}
+
+fn join(page: Page) -> Times {
+    let n = page.pieces.len() / 4;
+    let layout = with_rules(page.width, page.height, page.xheight, &page.pieces);
+    let p = params::rust(&page.params);
+    let mut lent = Lent::with_room(n, n);
+    let found = ffi::segments(&page, &mut lent);
+    let theirs = rulings::segments(&layout, &page.raster, &p);
+    assert_eq!((found.number, found.count), (0, theirs.len()));
+    compare(
+        21,
+        || {
+            black_box(ffi::segments(black_box(&page), &mut lent));
+        },
+        || {
+            black_box(rulings::segments(black_box(&layout), &page.raster, &p));
+        },
+    )
+}
