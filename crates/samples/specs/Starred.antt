@@ -19,11 +19,12 @@ use Rattle.layout.specs.ToPage.{rectToPage}
 use Rattle.lines.specs.Lines as Lines
 use Rattle.lines.specs.Lines.{lineCount}
 use Rattle.segments.specs.Pieces.{horizontal, centre2, start, end, touching}
-use Rattle.tables.specs.declared.segment.Segment.{Segment}
-use Rattle.tables.specs.declared.limits.Limits.{Limits}
-use Rattle.tables.specs.Segments.{segmentOf, touches, joinsEnd}
-use Rattle.tables.specs.Tables.{linesOf, isTable, joinedEnds, shareOf}
-use Rattle.tables.specs.Answers.{tableNumbers, freeNumbers}
+use Rattle.meeting.specs.declared.segment.Segment.{Segment}
+use Rattle.shapes.specs.declared.limits.Limits.{Limits}
+use Rattle.meeting.specs.Segments.{segmentOf, touches, joinsEnd}
+use Rattle.shapes.specs.Shapes.{linesOf, isTable}
+use Rattle.meeting.specs.Meeting.{joinedEnds, shareOf}
+use Rattle.table_lists.specs.Answers.{tableNumbers, freeNumbers}
 use Rattle.tables.specs.Call as Tables
 
 -- What the definition computes, and what document 01 says; both as numbers.

@@ -17,10 +17,10 @@ use Rattle.params.specs.declared.settings.RulingsParams.{RulingsParams}
 use Rattle.params.proofs.Limits.{limits, xheight-passed}
 use Rattle.params.proofs.Passed.{settings-passed}
 use Rattle.rects.specs.Rects.{count}
-use Rattle.tables.specs.declared.limits.Limits.{Limits}
-use Rattle.tables.specs.Limits.{limitsOf, Settled}
-use Rattle.tables.specs.Steps.{Given}
-use Rattle.tables.specs.Questions.{roomForTables, roomForIndexes, tableQuestions}
+use Rattle.shapes.specs.declared.limits.Limits.{Limits}
+use Rattle.shapes.specs.Limits.{limitsOf, Settled}
+use Rattle.meeting.specs.Steps.{Given}
+use Rattle.table_questions.specs.Questions.{roomForTables, roomForIndexes, tableQuestions}
 use Rattle.tables.specs.Call.{Lent, Filled, Roomy, Tables, missedBy}
 use Rattle.tables.proofs.Demand.{demand3}
 

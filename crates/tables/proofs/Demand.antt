@@ -10,10 +10,11 @@ use Rattle.sets.specs.Closed.{Once, Listed}
 use Rattle.sets.proofs.Ascending.{ascending-below, ascending-keep, one-place}
 use Rattle.sets.proofs.Grown.{closedSets-listed}
 use Rattle.rects.proofs.Around.{around-smallest}
-use Rattle.tables.specs.declared.limits.Limits.{Limits}
-use Rattle.tables.specs.Segments.{rulingAt}
-use Rattle.tables.specs.Tables.{touch, isTable}
-use Rattle.tables.specs.Answers.{tableNumbers, freeNumbers, placesOf}
+use Rattle.shapes.specs.declared.limits.Limits.{Limits}
+use Rattle.meeting.specs.Segments.{rulingAt}
+use Rattle.meeting.specs.Meeting.{touch}
+use Rattle.shapes.specs.Shapes.{isTable}
+use Rattle.table_lists.specs.Answers.{tableNumbers, freeNumbers, placesOf}
 use Rattle.tables.specs.Call.{ListedWhere, Demand3, setAt}
 
 module _ {D : ℕ → Type 0} {R : ℕ → ℕ → Type 0} {ss : List (List ℕ)} (L : Listed D R ss) (test : List ℕ → Bool) where

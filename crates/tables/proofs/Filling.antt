@@ -14,14 +14,16 @@ use Rattle.sets.specs.Listing.{closedSet, closedSets, membersOf}
 use Rattle.sets.proofs.Ascending.{ascending-below, sublist}
 use Rattle.sets.proofs.Listings.{members-listed}
 use Rattle.sets.proofs.Grown.{closedSets-listed}
-use Rattle.tables.specs.declared.segment.Segment.{Segment}
-use Rattle.tables.specs.declared.limits.Limits.{Limits}
-use Rattle.tables.specs.Segments.{rulingAt}
-use Rattle.tables.specs.Tables.{touch, isTable}
-use Rattle.tables.specs.Answers.{rulingSets, tableNumbers}
-use Rattle.tables.specs.Steps.{Inside, SetsIn, Numbers, Connected, Chose, Described}
+use Rattle.meeting.specs.declared.segment.Segment.{Segment}
+use Rattle.shapes.specs.declared.limits.Limits.{Limits}
+use Rattle.meeting.specs.Segments.{rulingAt}
+use Rattle.meeting.specs.Meeting.{touch, rulingSets}
+use Rattle.shapes.specs.Shapes.{isTable}
+use Rattle.table_lists.specs.Answers.{tableNumbers}
+use Rattle.meeting.specs.Steps.{Inside, Connected}
+use Rattle.table_lists.specs.Steps.{SetsIn, Numbers, Chose, Described}
 use Rattle.tables.specs.Call.{setAt, Lent, Filled}
-use Rattle.tables.proofs.Passes.{tables-few}
+use Rattle.table_lists.proofs.Passes.{tables-few}
 
 -- there are no more closed sets than indexes
 sets-few : (n : ℕ) (t : ℕ → ℕ → Bool) → length (closedSets n t) ≤ n

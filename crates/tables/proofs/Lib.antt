@@ -1,10 +1,4 @@
 -- The laws of `tables` that several proofs cite.
-pub mod Rulings
-pub mod Collecting
-pub mod Joining
-pub mod Stores
-pub mod Strung
-pub mod Passes
 pub mod Demand
 pub mod Filling
 pub mod Passing

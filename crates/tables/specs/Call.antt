@@ -13,12 +13,13 @@ use Rattle.questions.specs.Questions.{firstMissed}
 use Rattle.params.specs.declared.settings.RulingsParams.{RulingsParams}
 use Rattle.rects.specs.Rects.{count}
 use Rattle.rects.specs.Around.{around, Smallest}
-use Rattle.tables.specs.declared.limits.Limits.{Limits}
-use Rattle.tables.specs.Segments.{rulingAt}
-use Rattle.tables.specs.Tables.{Touch, isTable, rowsOf, columnsOf, shareOf}
-use Rattle.tables.specs.Answers.{rulingSets, tableNumbers, freeNumbers, freeList, placesOf, boundsOf}
-use Rattle.tables.specs.Limits.{limitsOf}
-use Rattle.tables.specs.Questions.{roomForTables, roomForIndexes, tableQuestions}
+use Rattle.shapes.specs.declared.limits.Limits.{Limits}
+use Rattle.meeting.specs.Segments.{rulingAt}
+use Rattle.meeting.specs.Meeting.{Touch, shareOf, rulingSets}
+use Rattle.shapes.specs.Shapes.{isTable, rowsOf, columnsOf}
+use Rattle.table_lists.specs.Answers.{tableNumbers, freeNumbers, freeList, placesOf, boundsOf}
+use Rattle.shapes.specs.Limits.{limitsOf}
+use Rattle.table_questions.specs.Questions.{roomForTables, roomForIndexes, tableQuestions}
 
 -- A listing of the closed sets that pass a test: each number below the count names one, and each is listed once.
 pub record ListedWhere (D : ℕ → Type 0) (R : ℕ → ℕ → Type 0) (test : List ℕ → Bool) (ss : List (List ℕ)) : Type 0 where

@@ -3,12 +3,13 @@ ghost use mathlib.Core.Path.{_≡_};
 ghost use Prim.Native.Nat.{_*_, _<_, _≤_, _^_};
 ghost use lib.ListN.{length, take};
 ghost use Rattle.sets.specs.Listing.{membersOf};
-ghost use Rattle.tables.specs.Segments.{rulingAt};
-ghost use Rattle.tables.specs.Steps.{Given, SetsIn, Numbers, Described};
+ghost use Rattle.meeting.specs.Segments.{rulingAt};
+ghost use Rattle.meeting.specs.Steps.{Given};
+ghost use Rattle.table_lists.specs.Steps.{SetsIn, Numbers, Described};
 ghost use Rattle.tables.specs.Call.{Filled, Roomy};
-use crate::connect;
-use crate::facts;
-use crate::limits::Limits;
+use meeting::connect;
+use shapes::limits::Limits;
+use table_lists::facts;
 
 // Writes the smallest rectangle, the number of rulings and the joined share of each table.
 fn describe(

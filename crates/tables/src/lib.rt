@@ -1,16 +1,10 @@
 // Tables: connected sets of horizontal and vertical rulings with enough of each; the other rulings are free.
-mod connect;
 pub mod core;
-mod ends;
-mod facts;
-mod guard;
-pub mod limits;
-mod segment;
-mod shape;
 
 ghost use Rattle.rects.specs.Rects.{count};
 ghost use Rattle.tables.specs.Call.{Tables, missedBy};
 use params::settings::RulingsParams;
+use table_questions::guard;
 
 // The number of the first missed question, 0 where none is, and how many sets, tables and free rulings there are.
 #[repr(C)]
@@ -77,7 +71,7 @@ pub fn tables(
         };
     }
     sets::begin(chosen, n);
-    let limits = limits::limits_of(p, xheight);
+    let limits = shapes::limits::limits_of(p, xheight);
     let found = core::find(
         rects,
         directions,

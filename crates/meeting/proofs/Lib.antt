@@ -1,0 +1,4 @@
+-- The laws of rulings that meet, which several proofs cite.
+pub mod Rulings
+pub mod Collecting
+pub mod Joining

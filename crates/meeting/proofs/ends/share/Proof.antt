@@ -1,0 +1,52 @@
+-- `ends::share` meets its contract: both counts are small enough to be floats.
+use mathlib.Core.Path.{_≡_, ap}
+use mathlib.Core.List.{List}
+use Prim.Native.Nat.{ℕ, _*_, _≤_, _^_}
+use native.Mathlib.Omega.{arith}
+use lib.Dec.{T, le→leb}
+use lib.IntN.{pos}
+use lib.Ieee.{binary64, div, ofInt, inFloat}
+use lib.ListN.{length}
+use Rattle.lists.proofs.Sizes.{keep-size-le}
+use Rattle.meeting.specs.declared.segment.Segment.{Segment}
+use Rattle.meeting.specs.Segments.{rulingAt}
+use Rattle.meeting.specs.Meeting.{endJoined, joinedEnds, shareOf}
+use Rattle.meeting.proofs.ends.share.Statement.{statement}
+use Rattle.meeting.proofs.ends.share.Tie as tie
+
+joined-few : (join : ℕ) (s : ℕ → Segment) (set : List ℕ) → joinedEnds join s set ≤ 2 * length set
+unfolding joinedEnds
+joined-few join s set =
+    omega (arith, keep-size-le (λ i. endJoined join s set (s i .start) i) set, keep-size-le (λ i. endJoined join s set (s i .end) i) set)
+
+as-float : (n : ℕ) → n ≤ 2 ^ 53 → T (inFloat binary64 (pos n))
+unfolding inFloat
+as-float n h = le→leb n (2 ^ 53) h
+
+small : {r : ℕ} (join : ℕ) (s : ℕ → Segment) (set : List ℕ) → r ≡ joinedEnds join s set → length set ≤ 4096 → r ≤ 2 ^ 53
+small join s set e h = omega (arith, joined-few join s set)
+
+one-division : {r : ℕ} (join : ℕ) (s : ℕ → Segment) (set : List ℕ) → r ≡ joinedEnds join s set
+    → div binary64 (ofInt binary64 (pos r)) (ofInt binary64 (pos (2 * length set))) ≡ shareOf join s set
+unfolding shareOf
+one-division join s set e = ap (λ (k : ℕ). div binary64 (ofInt binary64 (pos k)) (ofInt binary64 (pos (2 * length set)))) e
+
+joined-ends-requires : tie.Need-joined-ends-requires
+joined-ends-requires c κs = c .before .before .before .before .pre
+
+int-to-float-result : tie.Need-int-to-float-result
+int-to-float-result c = as-float (c .before .joined-ends .result) (small (c .before .before .before .before .before .before .args .join) (rulingAt (c .before .before .before .before .before .before .args .rects .now) (c .before .before .before .before .before .before .args .directions .now) (c .before .before .before .before .before .before .args .chosen .now)) (c .before .before .before .before .before .before .args .set .now) (c .before .joined-ends .ensures) (omega (arith, c .before .before .before .before .before .before .pre .2 .short, c .before .before .before .before .before .before .pre .1 .few)))
+
+mul-result : tie.Need-mul-result
+mul-result c = omega (arith, c .before .before .before .before .before .before .pre .2 .short, c .before .before .before .before .before .before .pre .1 .few)
+
+int-to-float-result-2 : tie.Need-int-to-float-result-2
+int-to-float-result-2 c = as-float (2 * length (c .before .before .before .before .before .before .before .args .set .now)) (omega (arith, c .before .before .before .before .before .before .before .pre .2 .short, c .before .before .before .before .before .before .before .pre .1 .few))
+
+returns : tie.Need-returns
+returns c = one-division (c .before .before .before .before .before .before .before .args .join) (rulingAt (c .before .before .before .before .before .before .before .args .rects .now) (c .before .before .before .before .before .before .before .args .directions .now) (c .before .before .before .before .before .before .before .args .chosen .now)) (c .before .before .before .before .before .before .before .args .set .now) (c .before .before .joined-ends .ensures)
+
+pub share-spec : {M : Type 1} → statement M
+share-spec =
+    tie.close
+    (tie.spec joined-ends-requires int-to-float-result mul-result int-to-float-result-2 returns)

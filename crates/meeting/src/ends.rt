@@ -1,0 +1,75 @@
+// The joined ends of a set's rulings, and their share.
+ghost use mathlib.Core.Path.{_≡_};
+ghost use Prim.Native.Nat.{_+_, _<_, _≤_, _^_};
+ghost use lib.ListN.{length};
+ghost use Rattle.lists.proofs.Sizes.{one};
+ghost use Rattle.meeting.specs.Segments.{rulingAt};
+ghost use Rattle.meeting.specs.Meeting.{endJoined, joinedEnds, shareOf};
+ghost use Rattle.meeting.specs.Steps.{Given, Inside};
+use crate::segment;
+
+fn both(first: bool, second: bool) -> usize
+    ensures { λ r. ⌜ r ≡ one first + one second ⌝ }
+{
+    if first {
+        if second {
+            return 2;
+        }
+        return 1;
+    }
+    if second {
+        return 1;
+    }
+    0
+}
+
+// How many of the two ends of the ruling at index i are joined by members of the set.
+fn joined_of(
+    rects: &[u32],
+    directions: &[u32],
+    chosen: &[u32],
+    set: &[u32],
+    join: u64,
+    i: usize,
+) -> usize
+    requires { ⌜ (join < 2 ^ 32) × Given (now rects) (now directions) (now chosen) × Inside (length (now chosen)) (now set) × (i < length (now chosen)) ⌝ }
+    ensures { λ r. ⌜ r ≡ one (endJoined join (rulingAt (now (rects .entry)) (now (directions .entry)) (now (chosen .entry))) (now (set .entry)) (rulingAt (now (rects .entry)) (now (directions .entry)) (now (chosen .entry)) i .start) i)
+        + one (endJoined join (rulingAt (now (rects .entry)) (now (directions .entry)) (now (chosen .entry))) (now (set .entry)) (rulingAt (now (rects .entry)) (now (directions .entry)) (now (chosen .entry)) i .end) i) ⌝ }
+{
+    let a = segment::ruling_at(rects, directions, chosen, i);
+    let mut start = false;
+    let mut end = false;
+    let mut k = 0;
+    while k < set.len() {
+        if start & end {
+            return 2;
+        }
+        let b = segment::ruling_at(rects, directions, chosen, set[k] as usize);
+        start = start | segment::joins_end(a.start, a, b, join);
+        end = end | segment::joins_end(a.end, a, b, join);
+        k += 1;
+    }
+    both(start, end)
+}
+
+fn joined_ends(rects: &[u32], directions: &[u32], chosen: &[u32], set: &[u32], join: u64) -> usize
+    requires { ⌜ (join < 2 ^ 32) × Given (now rects) (now directions) (now chosen) × Inside (length (now chosen)) (now set) ⌝ }
+    ensures { λ r. ⌜ r ≡ joinedEnds join (rulingAt (now (rects .entry)) (now (directions .entry)) (now (chosen .entry))) (now (set .entry)) ⌝ }
+{
+    let mut joined = 0;
+    let mut k = 0;
+    while k < set.len() {
+        joined += joined_of(rects, directions, chosen, set, join, set[k] as usize);
+        k += 1;
+    }
+    joined
+}
+
+// Joined ends over all ends.
+pub fn share(rects: &[u32], directions: &[u32], chosen: &[u32], set: &[u32], join: u64) -> f64
+    requires { ⌜ (join < 2 ^ 32) × Given (now rects) (now directions) (now chosen) × Inside (length (now chosen)) (now set) ⌝ }
+    ensures { λ r. ⌜ r ≡ shareOf join (rulingAt (now (rects .entry)) (now (directions .entry)) (now (chosen .entry))) (now (set .entry)) ⌝ }
+{
+    let joined = joined_ends(rects, directions, chosen, set, join);
+    joined as f64 / (2 * set.len()) as f64
+}

@@ -1,0 +1,86 @@
+// A ruling as other rulings meet it.
+ghost use mathlib.Core.Path.{_≡_};
+ghost use Prim.Native.Nat.{_+_, _<_, _^_};
+ghost use lib.ListN.{length};
+ghost use Rattle.meeting.specs.Segments.{segmentOf, rulingAt, opposite, spanHolds, touches, distance, joinsEnd};
+ghost use Rattle.meeting.specs.Steps.{Given};
+
+// The span along the ruling, and twice its centre across, so that it stays whole.
+pub struct Segment {
+    pub horizontal: bool,
+    pub start: u32,
+    pub end: u32,
+    pub centre2: u32,
+}
+
+fn segment_of(r: rects::Rect, direction: u32) -> Segment
+    requires { ⌜ (r .x0 + r .x1 < 2 ^ 32) × (r .y0 + r .y1 < 2 ^ 32) ⌝ }
+    ensures { λ a. ⌜ a ≡ segmentOf r direction ⌝ }
+{
+    if direction == 0 {
+        return Segment {
+            horizontal: true,
+            start: r.x0,
+            end: r.x1,
+            centre2: r.y0 + r.y1,
+        };
+    }
+    Segment {
+        horizontal: false,
+        start: r.y0,
+        end: r.y1,
+        centre2: r.x0 + r.x1,
+    }
+}
+
+// The ruling at an index, which is a place among the chosen ones.
+pub fn ruling_at(rects: &[u32], directions: &[u32], chosen: &[u32], i: usize) -> Segment
+    requires { ⌜ Given (now rects) (now directions) (now chosen) × (i < length (now chosen)) ⌝ }
+    ensures { λ a. ⌜ a ≡ rulingAt (now (rects .entry)) (now (directions .entry)) (now (chosen .entry)) i ⌝ }
+{
+    let place = chosen[i] as usize;
+    segment_of(rects::rect_at(rects, place), directions[place])
+}
+
+fn opposite(a: Segment, b: Segment) -> bool
+    ensures { λ r. ⌜ r ≡ opposite a b ⌝ }
+{
+    if a.horizontal {
+        return !b.horizontal;
+    }
+    b.horizontal
+}
+
+// Does a doubled place lie within twice the span, widened by the limit?
+fn span_holds(a: Segment, c: u32, join: u64) -> bool
+    requires { ⌜ join < 2 ^ 32 ⌝ }
+    ensures { λ r. ⌜ r ≡ spanHolds join a c ⌝ }
+{
+    (2 * a.start as u64 <= c as u64 + 2 * join) & (c as u64 <= 2 * (a.end as u64 + join))
+}
+
+// Do a horizontal and a vertical touch? The Rust's `meet`.
+pub fn touches(a: Segment, b: Segment, join: u64) -> bool
+    requires { ⌜ join < 2 ^ 32 ⌝ }
+    ensures { λ r. ⌜ r ≡ touches join a b ⌝ }
+{
+    opposite(a, b) & span_holds(a, b.centre2, join) & span_holds(b, a.centre2, join)
+}
+
+fn distance(a: u64, b: u64) -> u64
+    ensures { λ r. ⌜ r ≡ distance a b ⌝ }
+{
+    if a < b {
+        return b - a;
+    }
+    a - b
+}
+
+// Does ruling b join the end of ruling a?
+pub fn joins_end(end: u32, a: Segment, b: Segment, join: u64) -> bool
+    requires { ⌜ join < 2 ^ 32 ⌝ }
+    ensures { λ r. ⌜ r ≡ joinsEnd join end a b ⌝ }
+{
+    let near = distance(2 * end as u64, b.centre2 as u64) <= 2 * join + 2;
+    opposite(a, b) & near & span_holds(b, a.centre2, join)
+}

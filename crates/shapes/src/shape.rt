@@ -1,0 +1,132 @@
+// The shape of a set: how many rulings and lines it has each way.
+ghost use mathlib.Core.Path.{_≡_};
+ghost use mathlib.Core.Bool.{true, false};
+ghost use Prim.Native.Nat.{_<_, _≤_, _^_};
+ghost use lib.ListN.{length, take};
+ghost use Rattle.meeting.specs.Segments.{rulingAt};
+ghost use Rattle.shapes.specs.Shapes.{inDirection, members, positions, linesOf, isTable};
+ghost use Rattle.meeting.specs.Steps.{Given, Inside};
+ghost use Rattle.shapes.specs.Steps.{Collected, Counted, Shaped};
+use crate::limits::Limits;
+use meeting::segment;
+use meeting::segment::Segment;
+
+fn in_direction(a: Segment, horizontal: bool) -> bool
+    ensures { λ r. ⌜ r ≡ inDirection horizontal a ⌝ }
+{
+    if horizontal {
+        return a.horizontal;
+    }
+    !a.horizontal
+}
+
+fn next(n: usize, more: bool) -> usize
+    requires { ⌜ n < 2 ^ 32 ⌝ }
+    ensures { λ r. ⌜ r ≡ mathlib.Core.Bool.cond more (Prim.Native.Nat.suc n) n ⌝ }
+{
+    if more {
+        return n + 1;
+    }
+    n
+}
+
+// Writes the line positions of the set's rulings in a direction, and returns how many there are. What is written for a ruling
+// of the other direction is overwritten by the next.
+fn collect(
+    rects: &[u32],
+    directions: &[u32],
+    chosen: &[u32],
+    set: &[u32],
+    horizontal: bool,
+    keys: &mut [u64],
+) -> usize
+    requires { ⌜ Given (now rects) (now directions) (now chosen) × Inside (length (now chosen)) (now set) × (length (now set) ≤ length (now keys)) ⌝ }
+    ensures { λ r. ⌜ Collected horizontal (rulingAt (now (rects .entry)) (now (directions .entry)) (now (chosen .entry))) (now (set .entry)) (now (keys .exit)) r ⌝ }
+{
+    let mut n = 0;
+    let mut k = 0;
+    while k < set.len() {
+        let a = segment::ruling_at(rects, directions, chosen, set[k] as usize);
+        keys[n] = (a.centre2 / 2) as u64;
+        n = next(n, in_direction(a, horizontal));
+        k += 1;
+    }
+    n
+}
+
+// The rulings of a set in a direction, and the lines that they make.
+pub struct Count {
+    pub rulings: usize,
+    pub lines: usize,
+}
+
+fn count_lines(
+    rects: &[u32],
+    directions: &[u32],
+    chosen: &[u32],
+    set: &[u32],
+    horizontal: bool,
+    cluster: u64,
+    keys: &mut [u64],
+    order: &mut [u32],
+    work: &mut [u32],
+) -> Count
+    requires { ⌜ Given (now rects) (now directions) (now chosen) × Inside (length (now chosen)) (now set) × (length (now set) ≤ length (now keys)) × (length (now set) ≤ length (now order)) × (length (now set) ≤ length (now work)) ⌝ }
+    ensures { λ r. ⌜ Counted cluster horizontal (rulingAt (now (rects .entry)) (now (directions .entry)) (now (chosen .entry))) (now (set .entry)) (r .rulings) (r .lines) ⌝ }
+{
+    let n = collect(rects, directions, chosen, set, horizontal, keys);
+    let lines = lines::lines(&keys[..n], cluster, order, work);
+    Count { rulings: n, lines }
+}
+
+// Is the set a table, and how many lines has it each way?
+pub struct Shape {
+    pub table: bool,
+    pub row_lines: usize,
+    pub column_lines: usize,
+}
+
+pub fn shape_of(
+    rects: &[u32],
+    directions: &[u32],
+    chosen: &[u32],
+    set: &[u32],
+    limits: Limits,
+    keys: &mut [u64],
+    order: &mut [u32],
+    work: &mut [u32],
+) -> Shape
+    requires { ⌜ Given (now rects) (now directions) (now chosen) × Inside (length (now chosen)) (now set) × (length (now set) ≤ length (now keys)) × (length (now set) ≤ length (now order)) × (length (now set) ≤ length (now work)) ⌝ }
+    ensures { λ r. ⌜ Shaped limits (rulingAt (now (rects .entry)) (now (directions .entry)) (now (chosen .entry))) (now (set .entry)) (r .table) (r .«row_lines») (r .«column_lines») ⌝ }
+{
+    let h = count_lines(
+        rects,
+        directions,
+        chosen,
+        set,
+        true,
+        limits.cluster,
+        keys,
+        order,
+        work,
+    );
+    let v = count_lines(
+        rects,
+        directions,
+        chosen,
+        set,
+        false,
+        limits.cluster,
+        keys,
+        order,
+        work,
+    );
+    Shape {
+        table: (limits.min_horizontal as usize <= h.rulings)
+            & (limits.min_vertical as usize <= v.rulings)
+            & (2 <= h.lines)
+            & (2 <= v.lines),
+        row_lines: h.lines,
+        column_lines: v.lines,
+    }
+}

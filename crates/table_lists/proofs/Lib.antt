@@ -1,0 +1,4 @@
+-- The laws of the passes over the sets.
+pub mod Stores
+pub mod Strung
+pub mod Passes

@@ -1,0 +1,2 @@
+-- The laws of the guard.
+pub mod InOrder

@@ -1,0 +1,2 @@
+-- What a reader must believe of the questions that `tables` puts.
+pub mod Questions

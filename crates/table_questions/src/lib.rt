@@ -1,0 +1,2 @@
+// The questions that `tables` puts.
+pub mod guard;
