@@ -2,3 +2,4 @@
 pub mod Rulings
 pub mod Collecting
 pub mod Joining
+pub mod Crossing

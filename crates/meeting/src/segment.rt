@@ -1,5 +1,6 @@
 // A ruling as other rulings meet it.
 ghost use mathlib.Core.Path.{_≡_};
+ghost use mathlib.Core.Bool.{true, false};
 ghost use Prim.Native.Nat.{_+_, _<_, _^_};
 ghost use lib.ListN.{length};
 ghost use Rattle.meeting.specs.Segments.{segmentOf, rulingAt, opposite, spanHolds, touches, distance, joinsEnd};
@@ -42,6 +43,15 @@ pub fn ruling_at(rects: &[u32], directions: &[u32], chosen: &[u32], i: usize) ->
     segment_of(rects::rect_at(rects, place), directions[place])
 }
 
+// The same for a vertical ruling, whose direction need not be read.
+pub fn vertical_at(rects: &[u32], directions: &[u32], chosen: &[u32], i: usize) -> Segment
+    requires { ⌜ Given (now rects) (now directions) (now chosen) × (i < length (now chosen)) × (rulingAt (now rects) (now directions) (now chosen) i .horizontal ≡ false) ⌝ }
+    ensures { λ a. ⌜ a ≡ rulingAt (now (rects .entry)) (now (directions .entry)) (now (chosen .entry)) i ⌝ }
+{
+    let place = chosen[i] as usize;
+    segment_of(rects::rect_at(rects, place), 1)
+}
+
 fn opposite(a: Segment, b: Segment) -> bool
     ensures { λ r. ⌜ r ≡ opposite a b ⌝ }
 {
@@ -60,11 +70,11 @@ fn span_holds(a: Segment, c: u32, join: u64) -> bool
 }
 
 // Do a horizontal and a vertical touch? The Rust's `meet`.
-pub fn touches(a: Segment, b: Segment, join: u64) -> bool
-    requires { ⌜ join < 2 ^ 32 ⌝ }
-    ensures { λ r. ⌜ r ≡ touches join a b ⌝ }
+pub fn touches(h: Segment, v: Segment, join: u64) -> bool
+    requires { ⌜ (join < 2 ^ 32) × (h .horizontal ≡ true) × (v .horizontal ≡ false) ⌝ }
+    ensures { λ r. ⌜ r ≡ touches join h v ⌝ }
 {
-    opposite(a, b) & span_holds(a, b.centre2, join) & span_holds(b, a.centre2, join)
+    span_holds(h, v.centre2, join) & span_holds(v, h.centre2, join)
 }
 
 fn distance(a: u64, b: u64) -> u64

@@ -1,13 +1,14 @@
 // The shape of a set: how many rulings and lines it has each way.
 ghost use mathlib.Core.Path.{_≡_};
 ghost use mathlib.Core.Bool.{true, false};
-ghost use Prim.Native.Nat.{_<_, _≤_, _^_};
+ghost use Prim.Native.Nat.{_≤_};
 ghost use lib.ListN.{length, take};
 ghost use Rattle.meeting.specs.Segments.{rulingAt};
 ghost use Rattle.shapes.specs.Shapes.{inDirection, members, positions, linesOf, isTable};
 ghost use Rattle.meeting.specs.Steps.{Given, Inside};
 ghost use Rattle.shapes.specs.Steps.{Collected, Counted, Shaped};
 use crate::limits::Limits;
+use meeting::listing;
 use meeting::segment;
 use meeting::segment::Segment;
 
@@ -18,16 +19,6 @@ fn in_direction(a: Segment, horizontal: bool) -> bool
         return a.horizontal;
     }
     !a.horizontal
-}
-
-fn next(n: usize, more: bool) -> usize
-    requires { ⌜ n < 2 ^ 32 ⌝ }
-    ensures { λ r. ⌜ r ≡ mathlib.Core.Bool.cond more (Prim.Native.Nat.suc n) n ⌝ }
-{
-    if more {
-        return n + 1;
-    }
-    n
 }
 
 // Writes the line positions of the set's rulings in a direction, and returns how many there are. What is written for a ruling
@@ -48,7 +39,7 @@ fn collect(
     while k < set.len() {
         let a = segment::ruling_at(rects, directions, chosen, set[k] as usize);
         keys[n] = (a.centre2 / 2) as u64;
-        n = next(n, in_direction(a, horizontal));
+        n = listing::next(n, in_direction(a, horizontal));
         k += 1;
     }
     n

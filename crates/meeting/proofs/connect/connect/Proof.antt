@@ -1,9 +1,10 @@
 -- `connect::connect` meets its contract: the roots of all joined pairs are the closed sets.
-use mathlib.Core.Path.{ap, _∙_}
+use mathlib.Core.Path.{sym, ap, _∙_}
 use mathlib.Core.List.{List}
 use Prim.Native.Nat.{ℕ, _≤_}
 use native.Mathlib.Omega.{arith}
 use lib.ListN.{length}
+use lib.Seq.{length-take-le}
 use Rattle.lists.specs.Lists.{concat, written}
 use Rattle.sets.specs.Closed.{Below}
 use Rattle.sets.specs.Joins.{Joins}
@@ -33,11 +34,20 @@ listed join s {n} {q} {m} {e} J L =
 room : {n : ℕ} {p : List ℕ} → n ≤ length p → n ≤ 4096 → Room n p
 room h k = record { room = h; small = omega arith }
 
+verticals-requires : tie.Need-verticals-requires
+verticals-requires c κs = search needs
+
+slice-reshare-prefix-join-all : tie.Need-slice-reshare-prefix-join-all
+slice-reshare-prefix-join-all c = search needs
+
+slice-aggregate-join-all : tie.Need-slice-aggregate-join-all
+slice-aggregate-join-all c = sym (length-take-le (c .before .before .before .verticals .result) (c .before .before .before .verticals .last .1 .1 .1 .0) (omega (arith, c .before .before .before .verticals .ensures .few, c .before .before .before .before .before .before .before .before .before .before .before .before .pre .0 .3, c .before .before .before .verticals .kept .1 .1 .1 .0)))
+
 join-all-requires : tie.Need-join-all-requires
-join-all-requires c κs = (c .before .before .before .before .before .before .before .before .pre .0 .0, c .before .before .before .before .before .before .before .before .pre .0 .1, room (c .before .before .before .before .before .before .before .before .pre .0 .2) (c .before .before .before .before .before .before .before .before .pre .0 .1 .few))
+join-all-requires c κs = (c .before .before .before .before .before .before .before .before .before .before .before .before .before .pre .0 .0, c .before .before .before .before .before .before .before .before .before .before .before .before .before .pre .0 .1, c .before .before .before .before .verticals .ensures .listed, room (c .before .before .before .before .before .before .before .before .before .before .before .before .before .pre .0 .2) (c .before .before .before .before .before .before .before .before .before .before .before .before .before .pre .0 .1 .few))
 
 list-requires : tie.Need-list-requires
-list-requires c κs = (c .before .before .before .before .before .before .join-all .ensures .parents, c .before .before .before .before .before .before .before .before .before .before .before .before .before .before .before .pre .1 .0, c .before .before .before .before .before .before .before .before .before .before .before .before .before .before .before .pre .1 .1, c .before .before .before .before .before .before .before .before .before .before .before .before .before .before .before .pre .0 .3)
+list-requires c κs = search needs
 
 same-length : tie.Need-same-length
 same-length c = search needs
@@ -52,12 +62,15 @@ same-length-4 : tie.Need-same-length-4
 same-length-4 c = search needs
 
 returns : tie.Need-returns
-returns c = listed (c .before .before .before .before .before .before .before .before .before .before .before .before .before .before .before .before .before .before .before .before .before .before .before .before .args .join) (rulingAt (c .before .before .before .before .before .before .before .before .before .before .before .before .before .before .before .before .before .before .before .before .before .before .before .before .args .rects .now) (c .before .before .before .before .before .before .before .before .before .before .before .before .before .before .before .before .before .before .before .before .before .before .before .before .args .directions .now) (c .before .before .before .before .before .before .before .before .before .before .before .before .before .before .before .before .before .before .before .before .before .before .before .before .args .chosen .now)) (c .before .before .before .before .before .before .before .before .before .before .before .before .before .before .before .join-all .ensures) (c .before .before .before .before .before .before .before .before .list .ensures)
+returns c = listed (c .before .before .before .before .before .before .before .before .before .before .before .before .before .before .before .before .before .before .before .before .before .before .before .before .before .before .before .before .before .args .join) (rulingAt (c .before .before .before .before .before .before .before .before .before .before .before .before .before .before .before .before .before .before .before .before .before .before .before .before .before .before .before .before .before .args .rects .now) (c .before .before .before .before .before .before .before .before .before .before .before .before .before .before .before .before .before .before .before .before .before .before .before .before .before .before .before .before .before .args .directions .now) (c .before .before .before .before .before .before .before .before .before .before .before .before .before .before .before .before .before .before .before .before .before .before .before .before .before .before .before .before .before .args .chosen .now)) (c .before .before .before .before .before .before .before .before .before .before .before .before .before .before .before .join-all .ensures) (c .before .before .before .before .before .before .before .before .list .ensures)
 
 pub connect-spec : {M : Type 1} → statement M
 connect-spec =
     tie.close
     (tie.spec
+    verticals-requires
+    slice-reshare-prefix-join-all
+    slice-aggregate-join-all
     join-all-requires
     list-requires
     same-length

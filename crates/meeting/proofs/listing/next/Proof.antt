@@ -1,8 +1,8 @@
--- `shape::next` meets its contract.
+-- `listing::next` meets its contract.
 use native.Mathlib.Numerals.{add-one}
 use borrow.Author.Needs.{needs}
-use Rattle.shapes.proofs.shape.next.Statement.{statement}
-use Rattle.shapes.proofs.shape.next.Tie as tie
+use Rattle.meeting.proofs.listing.next.Statement.{statement}
+use Rattle.meeting.proofs.listing.next.Tie as tie
 
 add-result : tie.Need-add-result
 add-result c = search needs

@@ -1,0 +1,56 @@
+-- `segment::vertical_at` meets its contract: any direction but 0 is vertical.
+use mathlib.Core.Path.{_≡_, refl, sym, ap, _∙_}
+use mathlib.Core.Bool.{Bool, true, false, cond, false≢true}
+use Prim.Native.Nat.{ℕ, _+_}
+use native.Mathlib.Omega.{arith}
+use lib.Dec.{eqb}
+use lib.ListN.{getD}
+use Rattle.rects.specs.declared.Rect.{Rect}
+use Rattle.rects.specs.Rects.{rectAt}
+use Rattle.meeting.specs.declared.segment.Segment.{Segment}
+use Rattle.meeting.specs.Segments.{segmentOf}
+use Rattle.meeting.proofs.Rulings.{sums-fit}
+use borrow.Author.Needs.{needs}
+use Rattle.meeting.proofs.segment.vertical_at.Statement.{statement}
+use Rattle.meeting.proofs.segment.vertical_at.Tie as tie
+
+standing : (r : Rect) (d : ℕ) → segmentOf r d .horizontal ≡ false → segmentOf r 1 ≡ segmentOf r d
+unfolding segmentOf
+standing r d e = go (eqb d 0) e
+  where
+    lying : Segment
+    lying = record { horizontal = true; start = r .x0; end = r .x1; centre2 = r .y0 + r .y1 }
+
+    upright : Segment
+    upright = record { horizontal = false; start = r .y0; end = r .y1; centre2 = r .x0 + r .x1 }
+
+    go : (t : Bool) → (cond t lying upright) .horizontal ≡ false → upright ≡ cond t lying upright
+    go true e = absurd (false≢true (sym e))
+    go false e = refl
+
+same : {a : Segment} {r : Rect} (rects : _) (k d : ℕ) → segmentOf (rectAt rects k) d .horizontal ≡ false → a ≡ segmentOf r 1 → r ≡ rectAt rects k
+    → a ≡ segmentOf (rectAt rects k) d
+same rects k d e f g = f ∙ ap (λ (q : Rect). segmentOf q 1) g ∙ standing (rectAt rects k) d e
+
+mul-place : tie.Need-mul-place
+mul-place c = search needs
+
+shared-slice-read-place : tie.Need-shared-slice-read-place
+shared-slice-read-place c = search needs
+
+cast-place : tie.Need-cast-place
+cast-place c = omega (arith, c .shared-slice-known4 .given (c .before .before .before .before .args .i))
+
+rect-at-requires : tie.Need-rect-at-requires
+rect-at-requires c κs = c .before .before .before .before .pre .0 .rect (c .before .before .before .before .args .i) (c .before .before .before .before .pre .1)
+
+segment-of-requires : tie.Need-segment-of-requires
+segment-of-requires c κs = sums-fit (c .before .before .before .before .before .pre .0) (getD (c .before .before .before .before .before .args .chosen .now) (c .before .before .before .before .before .args .i) 0) (c .rect-at .result) (c .rect-at .ensures)
+
+returns : tie.Need-returns
+returns c = same (c .before .before .before .before .before .before .args .rects .now) (getD (c .before .before .before .before .before .before .args .chosen .now) (c .before .before .before .before .before .before .args .i) 0) (getD (c .before .before .before .before .before .before .args .directions .now) (getD (c .before .before .before .before .before .before .args .chosen .now) (c .before .before .before .before .before .before .args .i) 0) 0) (c .before .before .before .before .before .before .pre .2) (c .segment-of .ensures) (c .before .rect-at .ensures)
+
+pub vertical-at-spec : {M : Type 1} → statement M
+vertical-at-spec =
+    tie.close
+    (tie.spec mul-place shared-slice-read-place cast-place rect-at-requires segment-of-requires returns)
