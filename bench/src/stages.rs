@@ -12,7 +12,7 @@ use crate::rust_layout::with_rules;
 use crate::tables::{lent, segments};
 use crate::timing::{Times, compare};
 
-pub const MEASUREMENTS: [(&str, fn() -> Times); 6] = [
+pub const MEASUREMENTS: [(&str, fn() -> Times); 9] = [
     ("rulings, a form of 240 pieces", form_pieces),
     ("rulings, 4,096 pieces, none touching", || {
         join(4_096, 4_096, strokes())
@@ -24,18 +24,34 @@ pub const MEASUREMENTS: [(&str, fn() -> Times); 6] = [
             (0..4_096).flat_map(|i| [2 * i, 5, 2 * i, 5]).collect(),
         )
     }),
-    ("tables, a form of 72 rulings", form_rulings),
-    ("tables, 4,096 horizontals", || {
-        table(
-            (0..4_096).flat_map(|i| [0, 2 * i, 30, 2 * i]).collect(),
-            |_| 0,
-        )
+    ("tables, a form of 72 rulings", || table(&form(4, 12, 6, 2_104))),
+    ("tables, a form of 300 rulings", || {
+        table(&form(6, 36, 14, 2_104))
     }),
-    (
-        "tables, 4,096 rulings by turns across and down, none touching",
-        || table(strokes(), |i| i as u32 % 2),
-    ),
+    ("tables, 4,096 rulings, all crossing", || {
+        let mut all = grid();
+        all.sort_by_key(|r| (r.rect[1], r.rect[0]));
+        table(&all)
+    }),
+    ("tables, 4,096 rulings by turns, all crossing", || {
+        table(&grid())
+    }),
+    ("tables, 4,096 horizontals", || {
+        table(&by_turns(
+            (0..4_096).map(|i| [0, 2 * i, 30, 2 * i]).collect(),
+            1,
+        ))
+    }),
+    ("tables, 4,096 rulings by turns, none touching", || {
+        table(&by_turns(strokes().as_chunks().0.to_vec(), 2))
+    }),
 ];
+
+/// A ruling as it is given: its rectangle, and 0 for across, 1 for down.
+struct Given {
+    rect: [u32; 4],
+    direction: u32,
+}
 
 fn strokes() -> Vec<u32> {
     (0..64)
@@ -43,34 +59,57 @@ fn strokes() -> Vec<u32> {
         .collect()
 }
 
-/// Four tables of 12 rows and 6 columns, each rule of them broken into pieces of `step`.
-fn form(step: u32) -> (Vec<u32>, Vec<u32>) {
-    let (mut rects, mut directions) = (Vec::new(), Vec::new());
-    for top in [200, 1_000, 1_800, 2_600] {
-        for y in (0..12).map(|k| top + 55 * k) {
+/// The directions from 0 on by turns.
+fn by_turns(rects: Vec<[u32; 4]>, directions: usize) -> Vec<Given> {
+    rects
+        .into_iter()
+        .enumerate()
+        .map(|(i, rect)| Given {
+            rect,
+            direction: (i % directions) as u32,
+        })
+        .collect()
+}
+
+/// 2,048 across and 2,048 down, by turns; each meets all of the other direction, and both its ends are joined.
+fn grid() -> Vec<Given> {
+    by_turns(
+        (0..2_048)
+            .map(|i| 4 * i)
+            .flat_map(|c| [[0, c, 8_188, c], [c, 0, c, 8_188]])
+            .collect(),
+        2,
+    )
+}
+
+/// Tables below each other on a page of 3,508 rows, each rule of them broken into pieces of `step`.
+fn form(tables: u32, across: u32, down: u32, step: u32) -> Vec<Given> {
+    let mut all = Vec::new();
+    let height = 3_200 / tables * 3 / 4;
+    for top in (0..tables).map(|k| 150 + 3_200 / tables * k) {
+        for y in (0..across).map(|k| top + height * k / (across - 1)) {
             for x in (150..2_250).step_by(step as usize) {
-                rects.extend([x, y, (x + step - 4).min(2_250), y + 2]);
-                directions.push(0);
+                all.push(Given {
+                    rect: [x, y, (x + step - 4).min(2_250), y + 2],
+                    direction: 0,
+                });
             }
         }
-        for x in (0..6).map(|k| 150 + 420 * k) {
-            for y in (top..top + 605).step_by(step as usize) {
-                rects.extend([x, y, x + 2, (y + step - 4).min(top + 605)]);
-                directions.push(1);
+        for x in (0..down).map(|k| 150 + 2_100 * k / (down - 1)) {
+            for y in (top..top + height).step_by(step as usize) {
+                all.push(Given {
+                    rect: [x, y, x + 2, (y + step - 4).min(top + height)],
+                    direction: 1,
+                });
             }
         }
     }
-    (rects, directions)
+    all
 }
 
 fn form_pieces() -> Times {
-    let (pieces, _) = form(525);
-    join(2_480, 3_508, pieces)
-}
-
-fn form_rulings() -> Times {
-    let (rects, directions) = form(2_104);
-    table(rects, |i| directions[i])
+    let pieces = form(4, 12, 6, 525);
+    join(2_480, 3_508, pieces.iter().flat_map(|r| r.rect).collect())
 }
 
 fn join(width: usize, height: usize, pieces: Vec<u32>) -> Times {
@@ -115,17 +154,22 @@ fn join(width: usize, height: usize, pieces: Vec<u32>) -> Times {
     )
 }
 
-fn table(rects: Vec<u32>, direction: impl Fn(usize) -> u32) -> Times {
-    let n = rects.len() / 4;
-    let directions: Vec<u32> = (0..n).map(direction).collect();
+fn table(all: &[Given]) -> Times {
+    let n = all.len();
+    let rects: Vec<u32> = all.iter().flat_map(|r| r.rect).collect();
+    let directions: Vec<u32> = all.iter().map(|r| r.direction).collect();
     let given = segments(&rects, &directions);
     let p = params::rust(&VALID);
     let mut lists = lent(0, n);
     let found = ffi_tables::tables(10.0, &VALID, &rects, &directions, &mut lists);
     assert_eq!(found.number, 0);
-    assert_eq!(found.tables, rulings::tables(&given, 10.0, &p).0.len());
+    let (tables, leftover) = rulings::tables(&given, 10.0, &p);
+    assert_eq!((found.tables, found.free), (tables.len(), leftover.len()));
+    for (table, share) in tables.iter().zip(&lists.shares) {
+        assert_eq!(table.junction_share, *share);
+    }
     compare(
-        11,
+        if n < 1_000 { 1_001 } else { 11 },
         || {
             let (rects, directions) = (black_box(&rects), black_box(&directions));
             black_box(ffi_tables::tables(
