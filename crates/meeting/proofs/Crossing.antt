@@ -14,7 +14,7 @@ use borrow.Author.Tests.{eqb-true}
 use Rattle.lists.specs.Lists.{In, below, written}
 use Rattle.lists.proofs.Every.{and-first}
 use Rattle.lists.proofs.Keep.{in-below, below-in, in-kept, kept-in, at-in}
-use Rattle.sets.specs.Closed.{Below, Chain}
+use Rattle.sets.specs.Closed.{Below}
 use Rattle.sets.specs.Joins.{Joins}
 use Rattle.sets.specs.Parents.{Room, Parents, root, merged, Joined}
 use Rattle.sets.proofs.Chains.{chain-step}

@@ -1,12 +1,14 @@
 // The joined ends of a set's rulings, and their share.
 ghost use mathlib.Core.Path.{_≡_};
-ghost use Prim.Native.Nat.{_+_, _<_, _≤_, _^_};
+ghost use Prim.Native.Nat.{_+_, _<_, _^_};
 ghost use lib.ListN.{length};
+ghost use Rattle.lists.specs.Lists.{any};
 ghost use Rattle.lists.proofs.Sizes.{one};
-ghost use Rattle.meeting.specs.Segments.{rulingAt};
+ghost use Rattle.meeting.specs.Segments.{rulingAt, joinsEnd};
 ghost use Rattle.meeting.specs.Meeting.{endJoined, joinedEnds, shareOf};
 ghost use Rattle.meeting.specs.Steps.{Given, Inside};
 use crate::segment;
+use crate::segment::Segment;
 
 fn both(first: bool, second: bool) -> usize
     ensures { λ r. ⌜ r ≡ one first + one second ⌝ }
@@ -23,7 +25,56 @@ fn both(first: bool, second: bool) -> usize
     0
 }
 
-// How many of the two ends of the ruling at index i are joined by members of the set.
+// Is an end of ruling a joined by a member of the set? The first members are asked first.
+fn joined_from_front(
+    rects: &[u32],
+    directions: &[u32],
+    chosen: &[u32],
+    set: &[u32],
+    join: u64,
+    a: Segment,
+    end: u32,
+) -> bool
+    requires { ⌜ (join < 2 ^ 32) × Given (now rects) (now directions) (now chosen) × Inside (length (now chosen)) (now set) ⌝ }
+    ensures { λ r. ⌜ r ≡ any (λ j. joinsEnd join end a (rulingAt (now (rects .entry)) (now (directions .entry)) (now (chosen .entry)) j)) (now (set .entry)) ⌝ }
+{
+    let mut k = 0;
+    while k < set.len() {
+        let b = segment::ruling_at(rects, directions, chosen, set[k] as usize);
+        if segment::joins_end(end, a, b, join) {
+            return true;
+        }
+        k += 1;
+    }
+    false
+}
+
+// The same, and the last members are asked first.
+fn joined_from_back(
+    rects: &[u32],
+    directions: &[u32],
+    chosen: &[u32],
+    set: &[u32],
+    join: u64,
+    a: Segment,
+    end: u32,
+) -> bool
+    requires { ⌜ (join < 2 ^ 32) × Given (now rects) (now directions) (now chosen) × Inside (length (now chosen)) (now set) ⌝ }
+    ensures { λ r. ⌜ r ≡ any (λ j. joinsEnd join end a (rulingAt (now (rects .entry)) (now (directions .entry)) (now (chosen .entry)) j)) (now (set .entry)) ⌝ }
+{
+    let mut k = set.len();
+    while k > 0 {
+        k -= 1;
+        let b = segment::ruling_at(rects, directions, chosen, set[k] as usize);
+        if segment::joins_end(end, a, b, join) {
+            return true;
+        }
+    }
+    false
+}
+
+// How many of the two ends of the ruling at index i are joined by members of the set. In sorted order a start meets an early member, and an
+// end a late one.
 fn joined_of(
     rects: &[u32],
     directions: &[u32],
@@ -37,18 +88,8 @@ fn joined_of(
         + one (endJoined join (rulingAt (now (rects .entry)) (now (directions .entry)) (now (chosen .entry))) (now (set .entry)) (rulingAt (now (rects .entry)) (now (directions .entry)) (now (chosen .entry)) i .end) i) ⌝ }
 {
     let a = segment::ruling_at(rects, directions, chosen, i);
-    let mut start = false;
-    let mut end = false;
-    let mut k = 0;
-    while k < set.len() {
-        if start & end {
-            return 2;
-        }
-        let b = segment::ruling_at(rects, directions, chosen, set[k] as usize);
-        start = start | segment::joins_end(a.start, a, b, join);
-        end = end | segment::joins_end(a.end, a, b, join);
-        k += 1;
-    }
+    let start = joined_from_front(rects, directions, chosen, set, join, a, a.start);
+    let end = joined_from_back(rects, directions, chosen, set, join, a, a.end);
     both(start, end)
 }
 

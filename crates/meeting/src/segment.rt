@@ -91,6 +91,9 @@ pub fn joins_end(end: u32, a: Segment, b: Segment, join: u64) -> bool
     requires { ⌜ join < 2 ^ 32 ⌝ }
     ensures { λ r. ⌜ r ≡ joinsEnd join end a b ⌝ }
 {
+    if !opposite(a, b) {
+        return false;
+    }
     let near = distance(2 * end as u64, b.centre2 as u64) <= 2 * join + 2;
-    opposite(a, b) & near & span_holds(b, a.centre2, join)
+    near & span_holds(b, a.centre2, join)
 }

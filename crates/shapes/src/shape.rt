@@ -2,9 +2,9 @@
 ghost use mathlib.Core.Path.{_≡_};
 ghost use mathlib.Core.Bool.{true, false};
 ghost use Prim.Native.Nat.{_≤_};
-ghost use lib.ListN.{length, take};
+ghost use lib.ListN.{length};
 ghost use Rattle.meeting.specs.Segments.{rulingAt};
-ghost use Rattle.shapes.specs.Shapes.{inDirection, members, positions, linesOf, isTable};
+ghost use Rattle.shapes.specs.Shapes.{inDirection, positions};
 ghost use Rattle.meeting.specs.Steps.{Given, Inside};
 ghost use Rattle.shapes.specs.Steps.{Collected, Counted, Shaped};
 use crate::limits::Limits;

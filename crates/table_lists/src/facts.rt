@@ -1,7 +1,7 @@
 // Which sets are tables, what is found of each, and the free list.
 ghost use mathlib.Core.Path.{_≡_};
-ghost use Prim.Native.Nat.{ℕ, _+_, _*_, _<_, _≤_, _^_};
-ghost use lib.ListN.{length, take, getD};
+ghost use Prim.Native.Nat.{_+_, _*_, _<_, _≤_, _^_};
+ghost use lib.ListN.{length, take};
 ghost use lib.Seq.{sets};
 ghost use Rattle.rects.specs.Around.{around};
 ghost use Rattle.sets.specs.Listing.{membersOf};

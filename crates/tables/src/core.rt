@@ -3,7 +3,6 @@ ghost use mathlib.Core.Path.{_≡_};
 ghost use Prim.Native.Nat.{_*_, _<_, _≤_, _^_};
 ghost use lib.ListN.{length, take};
 ghost use Rattle.sets.specs.Listing.{membersOf};
-ghost use Rattle.meeting.specs.Segments.{rulingAt};
 ghost use Rattle.meeting.specs.Steps.{Given};
 ghost use Rattle.table_lists.specs.Steps.{SetsIn, Numbers, Described};
 ghost use Rattle.tables.specs.Call.{Filled, Roomy};

@@ -1,7 +1,6 @@
 // Tables: connected sets of horizontal and vertical rulings with enough of each; the other rulings are free.
 pub mod core;
 
-ghost use Rattle.rects.specs.Rects.{count};
 ghost use Rattle.tables.specs.Call.{Tables, missedBy};
 use params::settings::RulingsParams;
 use table_questions::guard;

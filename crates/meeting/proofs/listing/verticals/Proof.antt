@@ -1,11 +1,10 @@
 -- `listing::verticals` meets its contract: after i turns the verticals among the first i indexes stand in front.
 use mathlib.Core.Path.{_≡_, refl, sym, ap, _∙_}
-use mathlib.Core.Bool.{Bool, cond, not}
+use mathlib.Core.Bool.{cond, not}
 use mathlib.Core.List.{List, [], _∷_, map}
 use Prim.Native.Nat.{ℕ, suc, _+_, _-_, _≤_, _<_}
 use native.Mathlib.Omega.{arith}
-use borrow.Author.Needs.{needs}
-use lib.ListN.{length, set, take}
+use lib.ListN.{length, set}
 use Rattle.lists.specs.Lists.{below}
 use Rattle.lists.proofs.Keep.{length-below, getD-below}
 use Rattle.meeting.specs.declared.segment.Segment.{Segment}
