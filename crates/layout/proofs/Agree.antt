@@ -1,6 +1,6 @@
 -- A list that is written from the front, place by place, until it is another list.
 -- Assumes nothing.
-use mathlib.Core.Path.{_≡_, _∙_}
+use mathlib.Core.Path.{_≡_, refl, _∙_}
 use mathlib.Core.Logic.{⊎-elim}
 use mathlib.Core.List.{List}
 use Prim.Native.Nat.{ℕ, _+_, _≤_, _<_}
@@ -25,3 +25,10 @@ agree-more {i} {xs} {ys} v a h e = record { long = length-set xs i v ∙ a .long
 
 pub agree-all : {i : ℕ} {xs ys : List ℕ} → Agree i xs ys → length xs ≤ i → xs ≡ ys
 agree-all {i} {xs} {ys} a h = ext-getD 0 xs ys (a .long) (λ k l. a .below k (omega arith))
+
+-- a list of one entry is that entry
+pub agree-one : (xs ys : List ℕ) → length xs ≡ length ys → length xs ≡ 1 → set xs 0 (getD ys 0 0) ≡ ys
+agree-one xs ys h one =
+    let first = agree-more (getD ys 0 0) (agree-none xs ys h) (omega arith) refl in
+    let long = length-set xs 0 (getD ys 0 0) in
+    agree-all first (omega arith)
