@@ -18,7 +18,7 @@ use Rattle.layout.specs.Level.{columnShows, placeShows, levelled}
 use Rattle.layout.specs.ToPage.{rectToPage}
 use Rattle.lines.specs.Lines as Lines
 use Rattle.lines.specs.Lines.{lineCount}
-use Rattle.segments.specs.Pieces.{horizontal, centre2, start, end, touching}
+use Rattle.pieces.specs.Pieces.{horizontal, centre2, start, end, touching}
 use Rattle.meeting.specs.declared.segment.Segment.{Segment}
 use Rattle.shapes.specs.declared.limits.Limits.{Limits}
 use Rattle.meeting.specs.Segments.{segmentOf, touches, joinsEnd}

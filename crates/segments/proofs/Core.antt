@@ -11,7 +11,7 @@ use Rattle.order.proofs.Computed.{sorted-length}
 use Rattle.rects.specs.Rects.{count}
 use Rattle.sets.specs.Closed.{Below, Listed}
 use Rattle.sets.specs.Listing.{membersOf, endsFrom}
-use Rattle.segments.specs.Pieces.{Touch}
+use Rattle.pieces.specs.Pieces.{Touch}
 use Rattle.segments.specs.Rulings.{pieceSets, keysOf, rulingSets}
 use Rattle.segments.specs.Steps.{Parts, partsOf, inOrder, Strung, RoomForSets, Described, RoomForRulings, SetsListed, SetsOrdered, Made}
 use Rattle.segments.proofs.Parts.{parts-are, part-is, order-is}

@@ -24,12 +24,12 @@ use Rattle.rects.specs.Rects.{count, rectAt}
 use Rattle.rects.specs.Around.{around}
 use Rattle.rects.proofs.Around.{around-smallest}
 use Rattle.rects.proofs.Questions.{Inside, all-inside-says}
-use Rattle.segments.specs.Pieces.{horizontal, touch, Touch}
+use Rattle.pieces.specs.Pieces.{horizontal, touch, Touch}
 use Rattle.segments.specs.Rulings.{pieceSets, keyOf, keysOf, rulingSets, directionOf, directionNumber, StandsBefore}
 use Rattle.segments.specs.Contract.{Demand3}
 use Rattle.segments.specs.Steps.{AllInside}
 use Rattle.segments.proofs.Accepted.{sides-say}
-use Rattle.segments.proofs.Touching.{touching-agrees}
+use Rattle.pieces.proofs.Touching.{touching-agrees}
 use Rattle.segments.proofs.Parts.{by-place}
 use Rattle.segments.proofs.Rectangles.{all-wider, around-inside}
 use Rattle.segments.proofs.Order.{key-orders, key-tells, size-sorted}

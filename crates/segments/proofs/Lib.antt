@@ -1,5 +1,4 @@
 -- Why the rulings are right: laws that belong to no one function.
-pub mod Touching
 pub mod Accepted
 pub mod Runs
 pub mod Parts

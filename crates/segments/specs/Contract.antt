@@ -18,7 +18,7 @@ use Rattle.layout.specs.Sides.{levelledSidesFit}
 use Rattle.params.specs.declared.settings.RulingsParams.{RulingsParams}
 use Rattle.params.specs.Scan.{xheightInRange}
 use Rattle.params.specs.Settings.{settingsQuestions}
-use Rattle.segments.specs.Pieces.{horizontal, Touch}
+use Rattle.pieces.specs.Pieces.{horizontal, Touch}
 use Rattle.segments.specs.Rulings.{rulingSets, directionOf, rectanglesOf, directionsOf, contrastsOf, StandsBefore}
 
 -- Question 14 of the lists that are written: the levelled raster has one byte a place, and there is room for as many rulings as pieces.

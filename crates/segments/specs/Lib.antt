@@ -1,6 +1,5 @@
--- What a reader must believe of `segments`: touching pieces, the rulings that their closed sets make, and what the call promises. `Steps` only its
+-- What a reader must believe of `segments`: the rulings that closed sets of pieces make, and what the call promises. `Steps` only its
 -- inner functions cite.
-pub mod Pieces
 pub mod Rulings
 pub mod Contract
 pub mod Steps

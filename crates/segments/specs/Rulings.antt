@@ -15,7 +15,7 @@ use Rattle.rects.specs.Around.{around}
 use Rattle.params.specs.declared.settings.RulingsParams.{RulingsParams}
 use Rattle.contrast.specs.Contrast.{contrastOf}
 use Rattle.segments.specs.declared.ruling.Ruling.{Ruling}
-use Rattle.segments.specs.Pieces.{horizontal, touch}
+use Rattle.pieces.specs.Pieces.{horizontal, touch}
 
 -- The closed sets of pieces, by smallest index.
 abbrev pub pieceSets : List ℕ → ℕ → ℕ → List (List ℕ)

@@ -4,5 +4,4 @@ mod keys;
 pub mod ruling;
 pub mod segments;
 mod sets_of_pieces;
-mod touch;
 mod write;

@@ -39,7 +39,7 @@ pub fn ruling_of(raster: &[u8], w: usize, h: usize, pieces: &[u32], set: &[u32])
 {
     let rect = rects::bounding(pieces, set);
     let first = rects::rect_at(pieces, set[0] as usize);
-    let horizontal = crate::touch::is_horizontal(first);
+    let horizontal = pieces::touch::is_horizontal(first);
     let contrast = contrast::contrast(raster, w, h, rect, horizontal);
     Ruling {
         rect,

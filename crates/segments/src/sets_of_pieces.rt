@@ -4,7 +4,8 @@ ghost use lib.ListN.{length};
 ghost use Rattle.rects.specs.Rects.{count};
 ghost use Rattle.sets.specs.Parents.{Room};
 ghost use Rattle.segments.specs.Rulings.{pieceSets};
-ghost use Rattle.segments.specs.Steps.{AllOrdered, AllInside, Parts, SetsListed, SetsOrdered};
+ghost use Rattle.pieces.specs.Steps.{AllOrdered};
+ghost use Rattle.segments.specs.Steps.{AllInside, Parts, SetsListed, SetsOrdered};
 
 // Lists the closed sets by smallest index, and returns how many there are. The parents and the work list are free afterwards.
 pub fn list_sets(
@@ -20,7 +21,7 @@ pub fn list_sets(
     ensures { λ r.
         ⌜ SetsListed (pieceSets (now (pieces .entry)) across gap) (count (now (pieces .entry))) (now (listed .entry)) (now («listed_ends» .entry)) (now (listed .exit)) (now («listed_ends» .exit)) r ⌝ }
 {
-    crate::touch::join_all(pieces, across, gap, parents);
+    pieces::touch::join_all(pieces, across, gap, parents);
     sets::list(parents, pieces.len() / 4, listed, listed_ends, work)
 }
 

@@ -15,9 +15,10 @@ use Rattle.rects.specs.Around.{around}
 use Rattle.rects.proofs.Questions.{has-numbers}
 use Rattle.contrast.specs.Contrast.{OnPicture, contrastOf}
 use Rattle.segments.specs.declared.ruling.Ruling.{Ruling}
-use Rattle.segments.specs.Pieces.{horizontal}
+use Rattle.pieces.specs.Pieces.{horizontal}
 use Rattle.segments.specs.Rulings.{directionOf, rulingOf}
-use Rattle.segments.specs.Steps.{Ordered, Picture}
+use Rattle.pieces.specs.Steps.{Ordered}
+use Rattle.segments.specs.Steps.{Picture}
 use Rattle.segments.proofs.Rectangles.{places-known, around-inside, inside-ordered}
 use Rattle.segments.proofs.ruling.ruling_of.Statement.{statement}
 use Rattle.segments.proofs.ruling.ruling_of.Tie as tie

@@ -13,7 +13,7 @@ use Rattle.sets.specs.Listing.{Listing, endsFrom}
 use Rattle.sets.specs.Parents.{root}
 use Rattle.sets.proofs.Listings.{joins-closedSets}
 use Rattle.sets.proofs.Sizes.{classes-all, classes-count, classes-total}
-use Rattle.segments.specs.Pieces.{touch, Touch}
+use Rattle.pieces.specs.Pieces.{touch, Touch}
 use Rattle.segments.specs.Rulings.{pieceSets}
 use Rattle.segments.specs.Steps.{SetsListed}
 use Rattle.segments.proofs.sets_of_pieces.list_sets.Statement.{statement}

@@ -6,8 +6,8 @@ ghost use Rattle.rects.specs.Rects.{count, rectAt};
 ghost use Rattle.sets.specs.Closed.{Below};
 ghost use Rattle.sets.specs.Joins.{Joins, Seen};
 ghost use Rattle.sets.specs.Parents.{Room};
-ghost use Rattle.segments.specs.Pieces.{horizontal, touching, Touch};
-ghost use Rattle.segments.specs.Steps.{Ordered, AllOrdered, centreIn, startIn, endIn};
+ghost use Rattle.pieces.specs.Pieces.{horizontal, touching, Touch};
+ghost use Rattle.pieces.specs.Steps.{Ordered, AllOrdered, centreIn, startIn, endIn};
 use rects::Rect;
 
 // At least as wide as high?
@@ -42,7 +42,7 @@ fn end(r: Rect, direction: bool) -> u64
 
 // Do two directions agree?
 fn agree(a: bool, b: bool) -> bool
-    ensures { λ t. ⌜ t ≡ Rattle.segments.specs.Pieces.agree a b ⌝ }
+    ensures { λ t. ⌜ t ≡ Rattle.pieces.specs.Pieces.agree a b ⌝ }
 {
     if a { b } else { !b }
 }

@@ -10,9 +10,9 @@ use Rattle.sets.specs.Closed.{Below}
 use Rattle.sets.specs.Joins.{Joins, Seen}
 use Rattle.sets.specs.Parents.{Room}
 use Rattle.sets.proofs.Pairs.{pairs-begin, row-next, all-seen}
-use Rattle.segments.specs.Pieces.{Touch}
-use Rattle.segments.proofs.touch.join_all.Statement.{statement}
-use Rattle.segments.proofs.touch.join_all.Tie as tie
+use Rattle.pieces.specs.Pieces.{Touch}
+use Rattle.pieces.proofs.touch.join_all.Statement.{statement}
+use Rattle.pieces.proofs.touch.join_all.Tie as tie
 
 record Rows (pieces : List ℕ) (across gap n : ℕ) (p : List ℕ) (q : List ℕ) (i : ℕ) : Type 0 where
   up-to : i ≤ n

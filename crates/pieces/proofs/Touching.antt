@@ -7,8 +7,8 @@ use native.Mathlib.Omega.{arith}
 use lib.Dec.{leb, ltb}
 use borrow.Author.Tests.{leb-true, leb-false, le-leb, lt-leb, ltb-true, ltb-false}
 use Rattle.rects.specs.declared.Rect.{Rect}
-use Rattle.segments.specs.Pieces.{horizontal, centre2, start, end, agree, within, touching}
-use Rattle.segments.specs.Steps.{Ordered, centreIn, startIn, endIn}
+use Rattle.pieces.specs.Pieces.{horizontal, centre2, start, end, agree, within, touching}
+use Rattle.pieces.specs.Steps.{Ordered, centreIn, startIn, endIn}
 
 -- touching, with the two directions as variables
 abbrev touchingIn : Bool → Bool → ℕ → ℕ → Rect → Rect → Bool

@@ -1,11 +1,11 @@
 -- `touch::touches` meets its contract: what the tests say, with the centres, starts and ends in the direction of the given piece. Assumes nothing.
 use mathlib.Core.Path.{sym, ap, _∙_}
 use Rattle.rects.specs.Rects.{rectAt}
-use Rattle.segments.specs.Pieces as Pieces
-use Rattle.segments.proofs.Touching.{touches-far, touches-past, touches-near}
+use Rattle.pieces.specs.Pieces as Pieces
+use Rattle.pieces.proofs.Touching.{touches-far, touches-past, touches-near}
 use borrow.Author.Needs.{needs}
-use Rattle.segments.proofs.touch.touches.Statement.{statement}
-use Rattle.segments.proofs.touch.touches.Tie as tie
+use Rattle.pieces.proofs.touch.touches.Statement.{statement}
+use Rattle.pieces.proofs.touch.touches.Tie as tie
 
 mul-reach : tie.Need-mul-reach
 mul-reach c = search needs

@@ -1,8 +1,8 @@
 -- `touch::centre2` meets its contract, by the direction. Assumes nothing.
 use borrow.Author.Needs.{needs}
 use native.Mathlib.Omega.{arith}
-use Rattle.segments.proofs.touch.centre2.Statement.{statement}
-use Rattle.segments.proofs.touch.centre2.Tie as tie
+use Rattle.pieces.proofs.touch.centre2.Statement.{statement}
+use Rattle.pieces.proofs.touch.centre2.Tie as tie
 
 cast-result : tie.Need-cast-result
 cast-result c = search needs

@@ -14,11 +14,11 @@ use Rattle.sets.specs.Closed.{Below}
 use Rattle.sets.specs.Joins.{Joins, Seen}
 use Rattle.sets.specs.Parents.{Joined}
 use Rattle.sets.proofs.Pairs.{pair-next}
-use Rattle.segments.specs.Pieces.{touching, touch, Touch}
-use Rattle.segments.specs.Steps.{Ordered}
-use Rattle.segments.proofs.Touching.{touching-comm}
-use Rattle.segments.proofs.touch.join_row.Statement.{statement}
-use Rattle.segments.proofs.touch.join_row.Tie as tie
+use Rattle.pieces.specs.Pieces.{touching, touch, Touch}
+use Rattle.pieces.specs.Steps.{Ordered}
+use Rattle.pieces.proofs.Touching.{touching-comm}
+use Rattle.pieces.proofs.touch.join_row.Statement.{statement}
+use Rattle.pieces.proofs.touch.join_row.Tie as tie
 
 record Row (pieces : List ℕ) (across gap : ℕ) (p : List ℕ) (i n : ℕ) (q : List ℕ) (j : ℕ) : Type 0 where
   later : i < j

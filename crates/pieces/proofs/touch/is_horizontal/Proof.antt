@@ -6,9 +6,9 @@ use native.Mathlib.Omega.{arith}
 use lib.Dec.{leb}
 use borrow.Author.Needs.{needs}
 use borrow.Author.Tests.{leb-true, leb-false, le-leb, lt-leb}
-use Rattle.segments.specs.Pieces.{horizontal}
-use Rattle.segments.proofs.touch.is_horizontal.Statement.{statement}
-use Rattle.segments.proofs.touch.is_horizontal.Tie as tie
+use Rattle.pieces.specs.Pieces.{horizontal}
+use Rattle.pieces.proofs.touch.is_horizontal.Statement.{statement}
+use Rattle.pieces.proofs.touch.is_horizontal.Tie as tie
 
 one-more : (a b : ℕ) → leb a b ≡ leb (a + 1) (b + 1)
 one-more a b = go (leb a b) refl

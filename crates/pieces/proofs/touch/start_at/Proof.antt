@@ -1,14 +1,11 @@
--- `touch::end_at` meets its contract, by the direction. Assumes nothing.
+-- `touch::start_at` meets its contract, by the direction. Assumes nothing.
 use mathlib.Core.Path.{_∙_}
 use borrow.Author.Needs.{needs}
-use Rattle.segments.proofs.touch.end_at.Statement.{statement}
-use Rattle.segments.proofs.touch.end_at.Tie as tie
+use Rattle.pieces.proofs.touch.start_at.Statement.{statement}
+use Rattle.pieces.proofs.touch.start_at.Tie as tie
 
 mul-at : tie.Need-mul-at
 mul-at c = search needs
-
-add-number-at : tie.Need-add-number-at
-add-number-at c = search needs
 
 number-at-requires : tie.Need-number-at-requires
 number-at-requires c κs = search needs
@@ -16,8 +13,8 @@ number-at-requires c κs = search needs
 cast-result : tie.Need-cast-result
 cast-result c = search needs
 
-add-number-at-2 : tie.Need-add-number-at-2
-add-number-at-2 c = search needs
+add-number-at : tie.Need-add-number-at
+add-number-at c = search needs
 
 number-at-requires-2 : tie.Need-number-at-requires-2
 number-at-requires-2 c κs = search needs
@@ -31,15 +28,14 @@ returns c = (c .number-at .ensures ∙ simp (c .before .if1 .taken), search need
 returns-2 : tie.Need-returns-2
 returns-2 c = (c .number-at2 .ensures ∙ simp (c .before .if1 .left), search needs)
 
-pub end-at-spec : {M : Type 1} → statement M
-end-at-spec =
+pub start-at-spec : {M : Type 1} → statement M
+start-at-spec =
     tie.close
     (tie.spec
     mul-at
-    add-number-at
     number-at-requires
     cast-result
-    add-number-at-2
+    add-number-at
     number-at-requires-2
     cast-result-2
     returns

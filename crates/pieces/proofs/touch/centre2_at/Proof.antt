@@ -2,8 +2,8 @@
 use mathlib.Core.Path.{ap₂, _∙_}
 use Prim.Native.Nat.{_+_}
 use borrow.Author.Needs.{needs}
-use Rattle.segments.proofs.touch.centre2_at.Statement.{statement}
-use Rattle.segments.proofs.touch.centre2_at.Tie as tie
+use Rattle.pieces.proofs.touch.centre2_at.Statement.{statement}
+use Rattle.pieces.proofs.touch.centre2_at.Tie as tie
 
 mul-at : tie.Need-mul-at
 mul-at c = search needs

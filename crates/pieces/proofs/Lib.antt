@@ -1,0 +1,2 @@
+-- Why pieces are joined rightly: laws that belong to no one function.
+pub mod Touching
