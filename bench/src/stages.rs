@@ -12,7 +12,7 @@ use crate::rust_layout::with_rules;
 use crate::tables::{lent, segments};
 use crate::timing::{Times, compare};
 
-pub const MEASUREMENTS: [(&str, fn() -> Times); 9] = [
+pub const MEASUREMENTS: [(&str, fn() -> Times); 10] = [
     ("rulings, a form of 240 pieces", form_pieces),
     ("rulings, 4,096 pieces, none touching", || {
         join(4_096, 4_096, strokes())
@@ -24,18 +24,24 @@ pub const MEASUREMENTS: [(&str, fn() -> Times); 9] = [
             (0..4_096).flat_map(|i| [2 * i, 5, 2 * i, 5]).collect(),
         )
     }),
-    ("tables, a form of 72 rulings", || table(&form(4, 12, 6, 2_104))),
+    ("tables, a form of 72 rulings", || {
+        table(&form(4, 12, 6, 2_104))
+    }),
     ("tables, a form of 300 rulings", || {
         table(&form(6, 36, 14, 2_104))
     }),
     ("tables, 4,096 rulings, all crossing", || {
-        let mut all = grid();
+        let mut all = grid(0);
         all.sort_by_key(|r| (r.rect[1], r.rect[0]));
         table(&all)
     }),
     ("tables, 4,096 rulings by turns, all crossing", || {
-        table(&grid())
+        table(&grid(0))
     }),
+    (
+        "tables, 4,096 rulings by turns, all crossing, no end joined",
+        || table(&grid(16)),
+    ),
     ("tables, 4,096 horizontals", || {
         table(&by_turns(
             (0..4_096).map(|i| [0, 2 * i, 30, 2 * i]).collect(),
@@ -71,12 +77,13 @@ fn by_turns(rects: Vec<[u32; 4]>, directions: usize) -> Vec<Given> {
         .collect()
 }
 
-/// 2,048 across and 2,048 down, by turns; each meets all of the other direction, and both its ends are joined.
-fn grid() -> Vec<Given> {
+/// 2,048 across and 2,048 down, by turns; each meets all of the other direction, and reaches past the outer ones by `past`.
+fn grid(past: u32) -> Vec<Given> {
+    let (from, to) = (16 - past, 16 + 4 * 2_039 + past);
     by_turns(
         (0..2_048)
-            .map(|i| 4 * i)
-            .flat_map(|c| [[0, c, 8_188, c], [c, 0, c, 8_188]])
+            .map(|i| 16 + 4 * (i % 2_040))
+            .flat_map(|c| [[from, c, to, c], [c, from, c, to]])
             .collect(),
         2,
     )
