@@ -1,0 +1,83 @@
+-- `lines::last_line_end` meets its contract: the last line over the limit before the one in hand is the last of all. Assumes nothing.
+use mathlib.Core.Path.{_≡_, refl, sym, ap, _∙_}
+use mathlib.Core.Bool.{Bool}
+use mathlib.Core.List.{List}
+use Prim.Native.Nat.{ℕ, _+_, _-_, _≤_, _<_}
+use native.Mathlib.Omega.{arith}
+use borrow.Author.Needs.{needs}
+use lib.Ieee.{Float}
+use Rattle.rects.specs.declared.Rect.{Rect}
+use Rattle.ink.specs.Ink.{inkAt, lineInk}
+use Rattle.ink.specs.Places.{over, lastEnd}
+use Rattle.ink.proofs.Places.{last-found, last-passed, last-none}
+use Rattle.ink.proofs.lines.last_line_end.Statement.{statement}
+use Rattle.ink.proofs.lines.last_line_end.Tie as tie
+
+abbrev test : List ℕ → ℕ → Rect → Bool → Float → ℕ → Bool
+test mask w r rows limit k = over limit (lineInk (inkAt w mask) r rows k)
+
+abbrev Inv-loop : tie.InvT-loop
+Inv-loop mask w r rows limit k₀ k = (k ≤ k₀) × (lastEnd (test mask w r rows limit) k ≡ lastEnd (test mask w r rows limit) k₀)
+
+abbrev μ-loop : tie.MeasureT-loop
+μ-loop mask w r rows limit k₀ k = k
+
+lines-of-requires : tie.Need-lines-of-requires Inv-loop μ-loop
+lines-of-requires c κs = search needs
+
+loop-holds : tie.Need-loop-holds Inv-loop μ-loop
+loop-holds c = (omega arith, refl)
+
+sub-line-count : tie.Need-sub-line-count Inv-loop μ-loop
+sub-line-count c = omega arith
+
+line-count-requires : tie.Need-line-count-requires Inv-loop μ-loop
+line-count-requires c κs = (c .before .before .before .before .pre, omega (arith, c .before .before .lines-of .ensures))
+
+is-over-requires : tie.Need-is-over-requires Inv-loop μ-loop
+is-over-requires c κs = tt
+
+-- the test of the line in hand
+found : (c : tie.After-is-over Inv-loop μ-loop) → let a = c .before .before .before .before .before .before .args in c .is-over .result ≡ test (a .mask .now) (a .w) (a .r) (a .rows) (a .limit) (c .before .before .before .loop .k - 1)
+found c = let a = c .before .before .before .before .before .before .args in c .is-over .ensures ∙ ap (over (a .limit)) (c .before .line-count .ensures)
+
+returns : tie.Need-returns Inv-loop μ-loop
+returns c =
+    let a = c .before .before .before .before .before .before .before .args in
+    let q = test (a .mask .now) (a .w) (a .r) (a .rows) (a .limit) in
+    sym (last-found q (c .before .before .before .before .loop .k) (c .before .before .before .loop-test .taken) (sym (found (c .before)) ∙ c .if1 .taken)) ∙ c .before .before .before .before .loop .inv .1 ∙ ap (lastEnd q) (c .before .before .before .before .before .lines-of .ensures)
+
+sub-k : tie.Need-sub-k Inv-loop μ-loop
+sub-k c = omega arith
+
+loop-less : tie.Need-loop-less Inv-loop μ-loop
+loop-less c = omega arith
+
+loop-again : tie.Need-loop-again Inv-loop μ-loop
+loop-again c =
+    let a = c .before .before .before .before .before .before .before .args in
+    let q = test (a .mask .now) (a .w) (a .r) (a .rows) (a .limit) in
+    (omega arith, sym (last-passed q (c .before .before .before .before .loop .k) (c .before .before .before .loop-test .taken) (sym (found (c .before)) ∙ c .if1 .left)) ∙ c .before .before .before .before .loop .inv .1)
+
+returns-2 : tie.Need-returns-2 Inv-loop μ-loop
+returns-2 c =
+    let a = c .before .before .before .before .args in
+    let q = test (a .mask .now) (a .w) (a .r) (a .rows) (a .limit) in
+    sym (last-none q (c .before .loop .k) (c .loop-test .left)) ∙ c .before .loop .inv .1 ∙ ap (lastEnd q) (c .before .before .lines-of .ensures)
+
+pub last-line-end-spec : {M : Type 1} → statement M
+last-line-end-spec =
+    tie.close
+    (tie.spec
+    Inv-loop
+    μ-loop
+    lines-of-requires
+    loop-holds
+    sub-line-count
+    line-count-requires
+    is-over-requires
+    returns
+    sub-k
+    loop-less
+    loop-again
+    returns-2)

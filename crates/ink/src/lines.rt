@@ -1,0 +1,99 @@
+// The lines of a rectangle, its rows or its columns: the first and the last over a limit, and the longest run of lines with ink.
+ghost use mathlib.Core.Path.{_≡_};
+ghost use mathlib.Core.Bool.{cond};
+ghost use Prim.Native.Nat.{suc, _<_};
+ghost use lib.Dec.{ltb};
+ghost use lib.Ieee.{Float};
+ghost use Rattle.ink.specs.Ink.{inkAt, linesOf, lineInk, Readable};
+ghost use Rattle.ink.specs.Places.{over, firstPlace, lastEnd, longestRun};
+use rects::Rect;
+
+// How many lines there are.
+pub fn lines_of(mask: &[u8], w: usize, r: Rect, rows: bool) -> u32
+    requires { ⌜ Readable (now mask) w r ⌝ }
+    ensures { λ n. ⌜ n ≡ linesOf r rows ⌝ }
+{
+    if rows {
+        return r.height();
+    }
+    r.width()
+}
+
+// The ink in line k.
+fn line_count(mask: &[u8], w: usize, r: Rect, rows: bool, k: u32) -> u32
+    requires { ⌜ Readable (now mask) w r × (k < linesOf r rows) ⌝ }
+    ensures { λ n. ⌜ n ≡ lineInk (inkAt w (now (mask .entry))) r rows k ⌝ }
+{
+    if rows {
+        return crate::read::row_count(mask, w, r, k);
+    }
+    crate::read::column_count(mask, w, r, k)
+}
+
+fn is_over(limit: f64, n: u32) -> bool
+    ensures { λ t. ⌜ t ≡ over limit n ⌝ }
+{
+    !(n as f64 <= limit)
+}
+
+// The first line whose ink is over the limit, and the number of lines where none is.
+pub fn first_line(mask: &[u8], w: usize, r: Rect, rows: bool, limit: f64) -> u32
+    requires { ⌜ Readable (now mask) w r ⌝ }
+    ensures { λ k. ⌜ k ≡ firstPlace (λ k. over limit (lineInk (inkAt w (now (mask .entry))) r rows k)) (linesOf r rows) ⌝ }
+{
+    let n = lines_of(mask, w, r, rows);
+    let mut k = 0;
+    while k < n {
+        if is_over(limit, line_count(mask, w, r, rows, k)) {
+            return k;
+        }
+        k += 1;
+    }
+    k
+}
+
+// One more than the last line whose ink is over the limit, and 0 where none is.
+pub fn last_line_end(mask: &[u8], w: usize, r: Rect, rows: bool, limit: f64) -> u32
+    requires { ⌜ Readable (now mask) w r ⌝ }
+    ensures { λ k. ⌜ k ≡ lastEnd (λ k. over limit (lineInk (inkAt w (now (mask .entry))) r rows k)) (linesOf r rows) ⌝ }
+{
+    let mut k = lines_of(mask, w, r, rows);
+    while 0 < k {
+        if is_over(limit, line_count(mask, w, r, rows, k - 1)) {
+            return k;
+        }
+        k -= 1;
+    }
+    0
+}
+
+fn greater(a: u32, b: u32) -> u32
+    ensures { λ r. ⌜ r ≡ Prim.Native.Nat.max a b ⌝ }
+{
+    if a < b { b } else { a }
+}
+
+// The longest unbroken run of lines that have ink.
+pub fn longest(mask: &[u8], w: usize, r: Rect, rows: bool) -> u32
+    requires { ⌜ Readable (now mask) w r ⌝ }
+    ensures { λ k. ⌜ k ≡ longestRun (λ k. ltb 0 (lineInk (inkAt w (now (mask .entry))) r rows k)) (linesOf r rows) ⌝ }
+{
+    let n = lines_of(mask, w, r, rows);
+    let mut best = 0;
+    let mut run = 0;
+    let mut k = 0;
+    while k < n {
+        run = longer_run(run, line_count(mask, w, r, rows, k));
+        best = greater(best, run);
+        k += 1;
+    }
+    best
+}
+
+// One longer where the line has ink, and 0 at a gap.
+fn longer_run(run: u32, n: u32) -> u32
+    requires { ⌜ run < 8192 ⌝ }
+    ensures { λ r. ⌜ r ≡ cond (ltb 0 n) (suc run) 0 ⌝ }
+{
+    if 0 < n { run + 1 } else { 0 }
+}
