@@ -100,3 +100,18 @@ module _ (q : ℕ → Bool) where
               let s = r .start in
               let e : s + (i - s) ≡ i = omega (arith, r .within) in
               sym (ap q e) ∙ r .passes (i - s) (omega (arith, r .within))
+
+-- tests that agree have the same runs
+module _ (q r : ℕ → Bool) (h : (i : ℕ) → q i ≡ r i) where
+  run-same : (n : ℕ) → runBefore q n ≡ runBefore r n
+  unfolding runBefore
+  run-same zero = refl
+  run-same (suc n) = ap₂ (λ (b : Bool) (k : ℕ). cond b (suc k) 0) (h n) (run-same n)
+
+  longest-same-at : (n : ℕ) → longestRun q n ≡ longestRun r n
+  unfolding longestRun
+  longest-same-at zero = refl
+  longest-same-at (suc n) = ap₂ max (longest-same-at n) (run-same (suc n))
+
+pub longest-same : (q r : ℕ → Bool) (n : ℕ) → ((i : ℕ) → q i ≡ r i) → longestRun q n ≡ longestRun r n
+longest-same q r n h = longest-same-at q r h n

@@ -1,0 +1,65 @@
+-- What the inner functions promise each other.
+use mathlib.Core.Path.{_≡_}
+use mathlib.Core.Bool.{Bool, cond}
+use mathlib.Core.List.{List, [], _∷_}
+use Prim.Native.Nat.{ℕ, _+_, _*_, _≤_, _<_}
+use lib.Ieee.{Float}
+use lib.ListN.{length}
+use lib.Seq.{sets}
+use Rattle.lists.specs.Lists.{written}
+use Rattle.rects.specs.Rects.{count, rectAt}
+use Rattle.rects.specs.declared.Rect.{Rect}
+use Rattle.ink.specs.Ink.{Ink, inkAt, Readable}
+use Rattle.boxes.specs.declared.limits.Limits.{Limits}
+use Rattle.boxes.specs.declared.found.CheckBox.{CheckBox}
+use Rattle.boxes.specs.declared.found.Found.{Found}
+use Rattle.boxes.specs.declared.found.Found.the-variants.{PassedOver, Box}
+use Rattle.boxes.specs.declared.frame.Framed.{Framed}
+use Rattle.boxes.specs.declared.frame.Framed.the-variants.{Nothing, Frame}
+use Rattle.boxes.specs.Tests.{hasFrame, frameOf}
+use Rattle.boxes.specs.Boxes.{frameMissed, boxIn, passedOver, boxOf, boxesOf, rectanglesOf, marksOf, coveragesOf}
+
+-- The frame of a glyph box, where it has one.
+unfoldable pub framedOf : Ink → Float → Rect → Framed
+framedOf ink fraction r = cond (hasFrame ink fraction r) (Frame (frameOf ink fraction r)) Nothing
+
+-- What the tests on a frame say.
+unfoldable pub foundIn : Ink → Limits → Rect → Found
+foundIn ink l f = cond (frameMissed ink l f) PassedOver (Box (boxIn ink l f))
+
+-- What all tests on a glyph box say.
+unfoldable pub foundOf : Ink → Limits → Rect → Found
+foundOf ink l r = cond (passedOver ink l r) PassedOver (Box (boxOf ink l r))
+
+-- The boxes that were found: none or one.
+abbrev pub listed : Found → List CheckBox
+listed PassedOver = []
+listed (Box b) = b ∷ []
+
+-- There is room for one more box after n.
+pub record RoomAt (n : ℕ) (rs ms : List ℕ) (cs : List Float) : Type 0 where
+  pub rects : 4 * n + 4 ≤ length rs
+  pub marks : n < length ms
+  pub coverages : n < length cs
+
+-- What was found is stored after n boxes.
+pub record Stored (found : Found) (n : ℕ) (rs ms : List ℕ) (cs : List Float) (rs′ ms′ : List ℕ) (cs′ : List Float) (n′ : ℕ) : Type 0 where
+  pub rects : rs′ ≡ sets rs (4 * n) (rectanglesOf (listed found))
+  pub marks : ms′ ≡ sets ms n (marksOf (listed found))
+  pub coverages : cs′ ≡ sets cs n (coveragesOf (listed found))
+  pub number : n′ ≡ n + length (listed found)
+
+-- A page that passed its questions: every glyph box can be read, and there is room for as many boxes.
+pub record Ready (mask : List ℕ) (w : ℕ) (glyphs : List ℕ) (l : Limits) (rs ms : List ℕ) (cs : List Float) : Type 0 where
+  pub readable : (k : ℕ) → k < count glyphs → Readable mask w (rectAt glyphs k)
+  pub tolerance : l .«box_tolerance_px» ≤ 3
+  pub rects : 4 * count glyphs ≤ length rs
+  pub marks : count glyphs ≤ length ms
+  pub coverages : count glyphs ≤ length cs
+
+-- What the core leaves.
+pub record Listed (mask : List ℕ) (w : ℕ) (glyphs : List ℕ) (l : Limits) (rs ms : List ℕ) (cs : List Float) (rs′ ms′ : List ℕ) (cs′ : List Float) (n : ℕ) : Type 0 where
+  pub count : n ≡ length (boxesOf (inkAt w mask) l glyphs)
+  pub rects : rs′ ≡ written (rectanglesOf (boxesOf (inkAt w mask) l glyphs)) rs
+  pub marks : ms′ ≡ written (marksOf (boxesOf (inkAt w mask) l glyphs)) ms
+  pub coverages : cs′ ≡ written (coveragesOf (boxesOf (inkAt w mask) l glyphs)) cs
