@@ -1,5 +1,9 @@
--- Laws of the tests on one glyph box, and of the list of boxes.
+-- Laws of the tests on one glyph box, of the list of boxes, and of the call.
 pub mod Frames
 pub mod Bands
 pub mod Halves
 pub mod Tests
+pub mod Stores
+pub mod Listing
+pub mod Accepted
+pub mod Call

@@ -1,7 +1,56 @@
 // Hollow squares with four straight edges among the glyph boxes of a page.
+ghost use Rattle.boxes.specs.Call.{Boxes};
+
 mod edges;
 pub mod found;
 mod frame;
+mod guard;
 mod inner;
 pub mod limits;
 mod sizes;
+pub mod write;
+
+use params::settings::RulingsParams;
+
+// The number of the first missed question, 0 where the page is accepted, and the number of boxes.
+#[repr(C)]
+pub struct Answer {
+    pub number: u32,
+    pub count: usize,
+}
+
+// Finds the boxes of a levelled page. A page that misses a question is refused with its number, and nothing is written.
+pub fn boxes(
+    w: usize,
+    h: usize,
+    dpi: u16,
+    xheight: f64,
+    ink: &[u8],
+    glyphs: &[u32],
+    p: RulingsParams,
+    rects: &mut [u32],
+    marks: &mut [u32],
+    coverages: &mut [f64],
+) -> Answer
+    ensures { λ r. ⌜ Boxes w h dpi xheight (now (ink .entry)) (now (glyphs .entry)) p
+        (now (rects .entry)) (now (marks .entry)) (now (coverages .entry)) (now (rects .exit)) (now (marks .exit)) (now (coverages .exit)) (r .number) (r .count) ⌝ }
+{
+    let number = guard::missed(
+        w,
+        h,
+        dpi,
+        xheight,
+        ink.len(),
+        glyphs,
+        p,
+        rects.len(),
+        marks.len(),
+        coverages.len(),
+    );
+    if number != 0 {
+        return Answer { number, count: 0 };
+    }
+    let l = limits::limits_of(dpi, xheight, p);
+    let count = write::find(ink, w, glyphs, l, rects, marks, coverages);
+    Answer { number: 0, count }
+}

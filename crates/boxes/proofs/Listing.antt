@@ -1,0 +1,169 @@
+-- The list of boxes, one glyph box after the other: nothing or one box more a turn, stored behind those that are there.
+use mathlib.Core.Path.{_≡_, refl, sym, ap, ap₂, subst, _∙_}
+use mathlib.Core.Bool.{Bool, true, false, cond, not}
+use mathlib.Core.List.{List, [], _∷_, _++_, map}
+use Prim.Native.Nat.{ℕ, zero, suc, _+_, _*_, _≤_, _<_, zero-le}
+use native.Mathlib.Numerals.{add-one}
+use native.Mathlib.Omega.{arith}
+use lib.Ieee.{Float}
+use lib.ListN.{length, set, length-append, length-map}
+use lib.Seq.{sets, length-sets}
+use borrow.Author.Tests.{not-true}
+use Rattle.lists.specs.Lists.{In, below, keep, concat, written}
+use Rattle.lists.proofs.Keep.{map-append, keep-append, concat-append, length-below, kept-in, in-kept, in-below, below-in}
+use Rattle.lists.proofs.Sizes.{keep-size-le}
+use Rattle.lists.proofs.Written.{written-run}
+use Rattle.rects.specs.Rects.{count, rectAt}
+use Rattle.rects.specs.declared.Rect.{Rect}
+use Rattle.ink.specs.Ink.{Ink, inkAt}
+use Rattle.boxes.specs.declared.limits.Limits.{Limits}
+use Rattle.boxes.specs.declared.found.CheckBox.{CheckBox}
+use Rattle.boxes.specs.declared.found.Found.{Found}
+use Rattle.boxes.specs.declared.found.Found.the-variants.{PassedOver, Box}
+use Rattle.boxes.specs.Boxes.{passedOver, boxOf, chosen, boxesBelow, boxesOf, EveryBox, numbersOf, rectanglesOf, marksOf, coveragesOf}
+use Rattle.boxes.specs.Steps.{foundOf, listed, RoomAt, Stored, Ready, Listed}
+
+-- ---- one glyph box more
+
+module _ (ink : Ink) (l : Limits) (glyphs : List ℕ) where
+  abbrev box-at : ℕ → CheckBox
+  box-at k = boxOf ink l (rectAt glyphs k)
+
+  abbrev stays : ℕ → Bool
+  stays k = not (passedOver ink l (rectAt glyphs k))
+
+  pub boxes-next : (k : ℕ) → boxesBelow ink l glyphs (k + 1) ≡ boxesBelow ink l glyphs k ++ listed (foundOf ink l (rectAt glyphs k))
+  unfolding boxesBelow foundOf
+  boxes-next k =
+      rw (add-one k) (ap (map box-at) (keep-append stays (below k) (k ∷ [])) ∙ map-append box-at (keep stays (below k)) (keep stays (k ∷ []))
+      ∙ ap (λ (t : List CheckBox). map box-at (keep stays (below k)) ++ t) (go (passedOver ink l (rectAt glyphs k))))
+    where
+      go : (b : Bool) → map box-at (cond (not b) (k ∷ []) []) ≡ listed (cond b PassedOver (Box (box-at k)))
+      go true = refl
+      go false = refl
+
+  pub boxes-none : boxesBelow ink l glyphs 0 ≡ []
+  unfolding boxesBelow
+  boxes-none = refl
+
+  pub boxes-few : (k : ℕ) → length (boxesBelow ink l glyphs k) ≤ k
+  unfolding boxesBelow
+  boxes-few k = omega (arith, length-map (keep stays (below k)) box-at, keep-size-le stays (below k), length-below k)
+
+  -- every glyph box that is not passed over has its box, and no other has one
+  pub every-box : EveryBox ink l glyphs (chosen ink l glyphs (count glyphs)) (boxesOf ink l glyphs)
+  unfolding boxesBelow
+  every-box =
+      record {
+        boxes = refl;
+        no-other = λ k m. let t = kept-in stays (below (count glyphs)) k m in (below-in (count glyphs) k (t .0), not-true (passedOver ink l (rectAt glyphs k)) (t .1));
+        each = λ k h f. in-kept stays (below (count glyphs)) k (in-below (count glyphs) k h) (ap not f);
+        in-order = refl;
+      }
+
+-- ---- what was found, stored
+
+pub stored-none : {found : Found} {n : ℕ} {rs ms : List ℕ} {cs : List Float} → found ≡ PassedOver → Stored found n rs ms cs rs ms cs n
+stored-none {found} {n} {rs} {ms} {cs} e =
+    subst (λ (f : Found). Stored f n rs ms cs rs ms cs n) (sym e) (record { rects = refl; marks = refl; coverages = refl; number = omega arith })
+
+pub stored-one : {found : Found} {n : ℕ} {rs ms rs′ : List ℕ} {cs : List Float} (b : CheckBox) → found ≡ Box b → rs′ ≡ sets rs (4 * n) (numbersOf (b .bbox))
+    → Stored found n rs ms cs rs′ (set ms n (b .mark)) (set cs n (b .«edge_coverage»)) (n + 1)
+stored-one {found} {n} {rs} {ms} {rs′} {cs} b e r =
+    subst (λ (f : Found). Stored f n rs ms cs rs′ (set ms n (b .mark)) (set cs n (b .«edge_coverage»)) (n + 1)) (sym e)
+    (record { rects = r; marks = refl; coverages = refl; number = omega arith })
+
+listed-few : (f : Found) → length (listed f) ≤ 1
+listed-few PassedOver = zero-le
+listed-few (Box b) = omega arith
+
+rectangles-long : (bs : List CheckBox) → length (rectanglesOf bs) ≡ 4 * length bs
+rectangles-long [] = refl
+rectangles-long (b ∷ bs) = omega (arith, rectangles-long bs)
+
+rectangles-append : (xs ys : List CheckBox) → rectanglesOf (xs ++ ys) ≡ rectanglesOf xs ++ rectanglesOf ys
+rectangles-append xs ys =
+    let numbers : CheckBox → List ℕ = λ b. numbersOf (b .bbox) in
+    ap concat (map-append numbers xs ys) ∙ concat-append (map numbers xs) (map numbers ys)
+
+-- a run of stores behind what is there
+run-written : {A : Type 0} (t xs lent : List A) {l l′ ys : List A} {at : ℕ} → l ≡ written xs lent → at ≡ length xs → at + length t ≤ length lent → l′ ≡ sets l at t → ys ≡ xs ++ t → l′ ≡ written ys lent
+run-written {A} t xs lent {l} {l′} {ys} {at} e a h s f =
+    s ∙ ap₂ (λ (w : List A) (i : ℕ). sets w i t) e a ∙ written-run t xs lent (omega arith) ∙ ap (λ (w : List A). written w lent) (sym f)
+
+-- ---- the loop
+
+module _ (mask : List ℕ) (w : ℕ) (glyphs : List ℕ) (l : Limits) where
+  abbrev bs : ℕ → List CheckBox
+  bs = boxesBelow (inkAt w mask) l glyphs
+
+  -- after k glyph boxes
+  pub record Finding (rs₀ ms₀ : List ℕ) (cs₀ : List Float) (rs ms : List ℕ) (cs : List Float) (n k : ℕ) : Type 0 where
+    pub up-to : k ≤ count glyphs
+    pub number : n ≡ length (bs k)
+    pub rects-long : length rs ≡ length rs₀
+    pub marks-long : length ms ≡ length ms₀
+    pub coverages-long : length cs ≡ length cs₀
+    pub rects : rs ≡ written (rectanglesOf (bs k)) rs₀
+    pub marks : ms ≡ written (marksOf (bs k)) ms₀
+    pub coverages : cs ≡ written (coveragesOf (bs k)) cs₀
+
+  pub begun : (rs ms : List ℕ) (cs : List Float) → Finding rs ms cs rs ms cs 0 0
+  begun rs ms cs =
+      let e = boxes-none (inkAt w mask) l glyphs in
+      record {
+        up-to = zero-le;
+        number = sym (ap length e);
+        rects-long = refl;
+        marks-long = refl;
+        coverages-long = refl;
+        rects = sym (ap (λ (b : List CheckBox). written (rectanglesOf b) rs) e);
+        marks = sym (ap (λ (b : List CheckBox). written (marksOf b) ms) e);
+        coverages = sym (ap (λ (b : List CheckBox). written (coveragesOf b) cs) e);
+      }
+
+  module _ {rs₀ ms₀ : List ℕ} {cs₀ : List Float} (R : Ready mask w glyphs l rs₀ ms₀ cs₀) {rs ms : List ℕ} {cs : List Float} {n k : ℕ} (F : Finding rs₀ ms₀ cs₀ rs ms cs n k) (h : k < count glyphs) where
+    few : n ≤ k
+    few = omega (arith, F .number, boxes-few (inkAt w mask) l glyphs k)
+
+    pub room : RoomAt n rs ms cs
+    room =
+        record {
+          rects = omega (arith, few, F .rects-long, R .rects);
+          marks = omega (arith, few, F .marks-long, R .marks);
+          coverages = omega (arith, few, F .coverages-long, R .coverages);
+        }
+
+    pub turn : {rs′ ms′ : List ℕ} {cs′ : List Float} {n′ : ℕ} {r : Rect} {found : Found} → r ≡ rectAt glyphs k → found ≡ foundOf (inkAt w mask) l r
+        → Stored found n rs ms cs rs′ ms′ cs′ n′ → Finding rs₀ ms₀ cs₀ rs′ ms′ cs′ n′ (k + 1)
+    turn {rs′} {ms′} {cs′} {n′} {r} {found} e f S =
+        let xs = bs k in
+        let ys = listed found in
+        let next : bs (k + 1) ≡ xs ++ ys = boxes-next (inkAt w mask) l glyphs k ∙ ap (λ (g : Found). xs ++ listed g) (sym (f ∙ ap (foundOf (inkAt w mask) l) e)) in
+        let one = listed-few found in
+        record {
+          up-to = omega arith;
+          number = S .number ∙ ap (λ (m : ℕ). m + length ys) (F .number) ∙ sym (ap length next ∙ length-append xs ys);
+          rects-long = ap length (S .rects) ∙ length-sets rs (4 * n) (rectanglesOf ys) ∙ F .rects-long;
+          marks-long = ap length (S .marks) ∙ length-sets ms n (marksOf ys) ∙ F .marks-long;
+          coverages-long = ap length (S .coverages) ∙ length-sets cs n (coveragesOf ys) ∙ F .coverages-long;
+          rects =
+              run-written (rectanglesOf ys) (rectanglesOf xs) rs₀ (F .rects) (omega (arith, F .number, rectangles-long xs)) (omega (arith, few, rectangles-long ys, R .rects)) (S .rects)
+              (ap rectanglesOf next ∙ rectangles-append xs ys);
+          marks =
+              run-written (marksOf ys) (marksOf xs) ms₀ (F .marks) (F .number ∙ sym (length-map xs (λ b. b .mark))) (omega (arith, few, length-map ys (λ b. b .mark), R .marks)) (S .marks)
+              (ap marksOf next ∙ map-append (λ b. b .mark) xs ys);
+          coverages =
+              run-written (coveragesOf ys) (coveragesOf xs) cs₀ (F .coverages) (F .number ∙ sym (length-map xs (λ b. b .«edge_coverage»)))
+              (omega (arith, few, length-map ys (λ b. b .«edge_coverage»), R .coverages)) (S .coverages) (ap coveragesOf next ∙ map-append (λ b. b .«edge_coverage») xs ys);
+        }
+
+  pub done : {rs₀ ms₀ rs ms : List ℕ} {cs₀ cs : List Float} {n k : ℕ} → Finding rs₀ ms₀ cs₀ rs ms cs n k → count glyphs ≤ k → Listed mask w glyphs l rs₀ ms₀ cs₀ rs ms cs n
+  done {rs₀} {ms₀} {rs} {ms} {cs₀} {cs} {n} {k} F h =
+      let end : k ≡ count glyphs = omega (arith, F .up-to) in
+      record {
+        count = F .number ∙ ap (λ (j : ℕ). length (bs j)) end;
+        rects = F .rects ∙ ap (λ (j : ℕ). written (rectanglesOf (bs j)) rs₀) end;
+        marks = F .marks ∙ ap (λ (j : ℕ). written (marksOf (bs j)) ms₀) end;
+        coverages = F .coverages ∙ ap (λ (j : ℕ). written (coveragesOf (bs j)) cs₀) end;
+      }

@@ -1,0 +1,67 @@
+// The boxes of a page, written as they are found.
+ghost use mathlib.Core.Path.{_≡_};
+ghost use Prim.Native.Nat.{_+_, _*_, _≤_, _<_};
+ghost use lib.ListN.{length};
+ghost use lib.Seq.{sets};
+ghost use Rattle.boxes.specs.Boxes.{numbersOf};
+ghost use Rattle.boxes.specs.Steps.{RoomAt, Stored, Ready, Listed};
+use crate::found::Found;
+use crate::limits::Limits;
+use rects::Rect;
+
+fn put_rect(rects: &mut [u32], k: usize, r: Rect)
+    requires { ⌜ 4 * k + 4 ≤ length (now rects) ⌝ }
+    ensures { λ _. ⌜ now (rects .exit) ≡ sets (now (rects .entry)) (4 * k) (numbersOf r) ⌝ }
+{
+    let at = 4 * k;
+    rects[at] = r.x0;
+    rects[at + 1] = r.y0;
+    rects[at + 2] = r.x1;
+    rects[at + 3] = r.y1;
+}
+
+// Stores a box after n others, and returns how many there are.
+fn store(
+    rects: &mut [u32],
+    marks: &mut [u32],
+    coverages: &mut [f64],
+    n: usize,
+    found: Found,
+) -> usize
+    requires { ⌜ RoomAt n (now rects) (now marks) (now coverages) ⌝ }
+    ensures { λ r. ⌜ Stored found n (now (rects .entry)) (now (marks .entry)) (now (coverages .entry)) (now (rects .exit)) (now (marks .exit)) (now (coverages .exit)) r ⌝ }
+{
+    match found {
+        Found::PassedOver => n,
+        Found::Box(b) => {
+            put_rect(rects, n, b.bbox);
+            marks[n] = b.mark;
+            coverages[n] = b.edge_coverage;
+            n + 1
+        }
+    }
+}
+
+// The boxes of a page that passed its questions, and how many there are.
+pub fn find(
+    mask: &[u8],
+    w: usize,
+    glyphs: &[u32],
+    l: Limits,
+    rects: &mut [u32],
+    marks: &mut [u32],
+    coverages: &mut [f64],
+) -> usize
+    requires { ⌜ Ready (now mask) w (now glyphs) l (now rects) (now marks) (now coverages) ⌝ }
+    ensures { λ n. ⌜ Listed (now (mask .entry)) w (now (glyphs .entry)) l (now (rects .entry)) (now (marks .entry)) (now (coverages .entry)) (now (rects .exit)) (now (marks .exit)) (now (coverages .exit)) n ⌝ }
+{
+    let count = glyphs.len() / 4;
+    let mut n = 0;
+    let mut k = 0;
+    while k < count {
+        let found = crate::found::test_glyph(mask, w, rects::rect_at(glyphs, k), l);
+        n = store(rects, marks, coverages, n, found);
+        k += 1;
+    }
+    n
+}
