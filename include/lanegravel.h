@@ -250,6 +250,44 @@ struct lanegravel_tables_answer lanegravel_tables(
     uint32_t *parents, size_t parents_count, uint32_t *work, size_t work_count,
     uint64_t *keys, size_t keys_count);
 
+/* What lanegravel_boxes answers: the number of the first question that is missed, 0 where the page is
+ * accepted, and the number of boxes, 0 on refusal. */
+struct lanegravel_boxes_answer {
+    uint32_t number;
+    size_t count;
+};
+
+/* Finds the boxes of a levelled page: hollow squares with four straight edges. ink has width * height
+ * bytes, row by row, and a byte that is not 0 is ink; a glyph box is four numbers, x0, y0, x1, y1,
+ * both ends inside it. Products run left to right. A glyph box is passed over when
+ *   - a side of it is below box_min_xh * xheight or above 1.6 * box_max_xh * xheight;
+ *   - no row has more ink than box_overshoot_fraction times its width, or no column more than that
+ *     times its height; its frame goes from the first such row and column to the last;
+ *   - a side of the frame is below the larger of box_min_xh * xheight and box_min_in * dpi, or above
+ *     box_max_xh * xheight;
+ *   - the frame's sides differ by more than box_aspect_tol times the larger;
+ *   - the edge coverage is below box_edge_coverage: for each side, the longest unbroken run of places
+ *     with ink in the band of box_tolerance_px + 1 rows or columns inside the frame, over the side's
+ *     length; the least of the four;
+ *   - more than box_max_inner_ink of the frame's inner half is ink.
+ * Every other glyph box gives one box, in the order of the glyph boxes.
+ *
+ * rects gets the frame, four numbers a box; marks 1 where at least box_checked_ink of the inner half
+ * is ink, else 0; coverages the edge coverage. Places past the answers keep their content. A call
+ * that misses a question writes nothing at all:
+ *   1  width and height 1 to 8,192
+ *   2  dpi not 0; xheight finite, above 0, at most 4,096
+ *   3  ink exactly width * height bytes
+ *   5  at most 16,384 glyph boxes, four numbers each
+ *   6  every glyph box ordered and inside the picture
+ *   7 to 11 and 13  the settings, as lanegravel_validate has them
+ *  14  rects four numbers a glyph box, marks and coverages one entry */
+struct lanegravel_boxes_answer lanegravel_boxes(
+    size_t width, size_t height, uint16_t dpi, double xheight, const uint8_t *ink, size_t ink_count,
+    const uint32_t *glyphs, size_t glyphs_count, struct lanegravel_rulings_params p,
+    uint32_t *rects, size_t rects_count, uint32_t *marks, size_t marks_count,
+    double *coverages, size_t coverages_count);
+
 #ifdef __cplusplus
 }
 #endif

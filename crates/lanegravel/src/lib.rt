@@ -1,5 +1,6 @@
 // The exported calls. Each is thin: it has the contract of the function that it calls, and no
 // `requires`, so nothing has to be vetted before a call. include/lanegravel.h declares them for C.
+mod box_call;
 mod floats;
 mod grouping;
 mod joining;
