@@ -1,0 +1,3 @@
+-- Why the grids are right: laws that belong to no one function.
+pub mod Similar
+pub mod SameParent

@@ -1,0 +1,52 @@
+-- Document 01's boxes as `box_grids` sees them: when two touch.
+use mathlib.Core.Path.{_≡_}
+use mathlib.Core.Bool.{Bool, true, _&&_, _||_}
+use mathlib.Core.List.{List}
+use Prim.Native.Nat.{ℕ, _+_, _-_, min, max}
+use lib.Dec.{leb}
+use lib.IntN.{natAbs}
+use lib.Ieee.{Float, binary64, mul, sub, le}
+use Rattle.math.specs.Constants.{threeTenths, two}
+use Rattle.math.specs.Rounding.{roundedProduct}
+use Rattle.math.specs.Select.{absolute, maximumNumber}
+use Rattle.math.specs.Sum.{whole}
+use Rattle.params.specs.declared.settings.RulingsParams.{RulingsParams}
+use Rattle.rects.specs.declared.Rect.{Rect}
+use Rattle.rects.specs.Rects.{widthOf, rectAt}
+
+-- Two widths are similar: they differ by at most 0.3 × the larger, in f64.
+unfoldable pub similar : ℕ → ℕ → Bool
+similar a b =
+    le (absolute (sub binary64 (whole a) (whole b))) (mul binary64 threeTenths (maximumNumber (whole a) (whole b)))
+
+-- The doubled centre of a box each way: the sum of its two coordinates.
+abbrev pub centreX : Rect → ℕ
+centreX r = r .x0 + r .x1
+
+abbrev pub centreY : Rect → ℕ
+centreY r = r .y0 + r .y1
+
+-- How far two numbers are apart.
+abbrev pub distance : ℕ → ℕ → ℕ
+distance a b = max a b - min a b
+
+-- Either doubled centre differs by at most the limit: the boxes stand in one column or in one row.
+abbrev pub aligned : ℕ → Rect → Rect → Bool
+aligned limit a b = leb (distance (centreX a) (centreX b)) limit || leb (distance (centreY a) (centreY b)) limit
+
+-- Two boxes touch: their widths are similar, and either doubled centre differs by at most the limit.
+unfoldable pub touching : ℕ → Rect → Rect → Bool
+unfolding similar
+touching limit a b = similar (widthOf a) (widthOf b) && aligned limit a b
+
+-- Two places of a list of boxes touch.
+abbrev pub touch : List ℕ → ℕ → ℕ → ℕ → Bool
+touch rects limit i j = touching limit (rectAt rects i) (rectAt rects j)
+
+-- The rule that `touch` decides.
+abbrev pub Touch : List ℕ → ℕ → ℕ → ℕ → Type 0
+Touch rects limit i j = touch rects limit i j ≡ true
+
+-- The limit: round(2 × grid_align_xh × x-height), products left to right; not below 0 on accepted input (`Grids`' field `limit`).
+abbrev pub alignLimit : RulingsParams → Float → ℕ
+alignLimit p xheight = natAbs (roundedProduct (mul binary64 two (p .«grid_align_xh»)) xheight)

@@ -1,0 +1,82 @@
+-- What `box_grids` promises: every lent list for accepted and refused input, and demand 3 for boxes.
+use mathlib.Core.Path.{_≡_}
+use mathlib.Core.Bool.{Bool, true, false, cond}
+use mathlib.Core.List.{List, [], map}
+use Prim.Native.Nat.{ℕ, _<_}
+use lib.Dec.{eqb}
+use lib.Ieee.{Float, binary64, mul}
+use lib.IntN.{pos}
+use lib.ListN.{length, getD}
+use Rattle.lists.specs.Lists.{concat, written}
+use Rattle.math.specs.Constants.{two}
+use Rattle.math.specs.Rounding.{roundedProduct}
+use Rattle.sets.specs.Closed.{Below, Closed, Once, Listed}
+use Rattle.sets.specs.Listing.{endsFrom}
+use Rattle.questions.specs.Questions.{firstMissed}
+use Rattle.params.specs.declared.settings.RulingsParams.{RulingsParams}
+use Rattle.rects.specs.Rects.{count, allInside}
+use Rattle.grids.specs.Boxes.{Touch, alignLimit}
+use Rattle.grids.specs.Reading.{InReadingOrder, readingOrder}
+use Rattle.grids.specs.Grids.{boxSets, isGrid, grids, readings}
+use Rattle.grids.specs.Questions.{roomForBoxes, gridQuestions}
+
+-- A listing of the closed sets that pass a test: each number below the count names one, and each is listed once.
+pub record ListedWhere (D : ℕ → Type 0) (R : ℕ → ℕ → Type 0) (test : List ℕ → Bool) (ss : List (List ℕ)) : Type 0 where
+  pub closed : (k : ℕ) → k < length ss → Closed D R (getD ss k [])
+  pub passes : (k : ℕ) → k < length ss → test (getD ss k []) ≡ true
+  pub once : (s : List ℕ) → Closed D R s → test s ≡ true → Once ss s
+
+-- Demand 3 for boxes: a set is listed exactly when it is closed, and then once; the grids are exactly the closed sets that reach the grid
+-- minimum, each once; and each reading order has its set's members by y0, then x0, then index.
+pub record Demand3 (rects : List ℕ) (limit least : ℕ) : Type 0 where
+  pub listed : Listed (Below (count rects)) (Touch rects limit) (boxSets rects limit)
+  pub each-grid :
+      ListedWhere (Below (count rects)) (Touch rects limit) (isGrid least) (map (λ k. getD (boxSets rects limit) k []) (grids least (boxSets rects limit)))
+  pub each-reading :
+      allInside 8192 8192 rects ≡ true → (k : ℕ) → k < length (boxSets rects limit)
+      → InReadingOrder rects (getD (boxSets rects limit) k []) (readingOrder rects (getD (boxSets rects limit) k []))
+
+-- The content of the lists that are lent: answers, then work lists.
+pub record Lent : Type 0 where
+  pub members : List ℕ
+  pub ends : List ℕ
+  pub reading : List ℕ
+  pub numbers : List ℕ
+  pub parents : List ℕ
+  pub work : List ℕ
+  pub keys : List ℕ
+
+-- Every list has room for n boxes.
+abbrev pub hasRoom : ℕ → Lent → Bool
+hasRoom n l =
+    roomForBoxes n (length (l .members)) (length (l .ends)) (length (l .reading)) (length (l .numbers)) (length (l .parents)) (length (l .work)) (length (l .keys))
+
+-- The number of the first missed question, 0 for none.
+abbrev pub missedBy : Float → RulingsParams → List ℕ → Lent → ℕ
+missedBy xheight p rects l = firstMissed (gridQuestions xheight p rects (hasRoom (count rects) l))
+
+-- The answers stand in front where the page is accepted; a refused page leaves the list.
+abbrev pub answered : ℕ → List ℕ → List ℕ → List ℕ
+answered q xs lent = cond (eqb q 0) (written xs lent) lent
+
+-- The closed sets of the boxes that `box_grids` is given.
+abbrev pub setsOf : Float → RulingsParams → List ℕ → List (List ℕ)
+setsOf xheight p rects = boxSets rects (alignLimit p xheight)
+
+-- What `box_grids` leaves, as q is the number of the first missed question: an accepted page's answers, and demand 3; a refused page leaves
+-- every list.
+pub record Grids (xheight : Float) (p : RulingsParams) (rects : List ℕ) (q : ℕ) (l l′ : Lent) (number ss gs : ℕ) : Type 0 where
+  pub missed : number ≡ q
+  pub set-count : ss ≡ cond (eqb q 0) (length (setsOf xheight p rects)) 0
+  pub grid-count : gs ≡ cond (eqb q 0) (length (grids (p .«grid_min_boxes») (setsOf xheight p rects))) 0
+  pub members : l′ .members ≡ answered q (concat (setsOf xheight p rects)) (l .members)
+  pub ends : l′ .ends ≡ answered q (endsFrom 0 (setsOf xheight p rects)) (l .ends)
+  pub reading : l′ .reading ≡ answered q (readings rects (setsOf xheight p rects)) (l .reading)
+  pub numbers : l′ .numbers ≡ answered q (grids (p .«grid_min_boxes») (setsOf xheight p rects)) (l .numbers)
+  -- a refused call leaves the work lists too
+  pub parents-kept : (q ≡ 0 → ⊥) → l′ .parents ≡ l .parents
+  pub work-kept : (q ≡ 0 → ⊥) → l′ .work ≡ l .work
+  pub keys-kept : (q ≡ 0 → ⊥) → l′ .keys ≡ l .keys
+  -- the limit is the rounded product, not below 0
+  pub limit : q ≡ 0 → roundedProduct (mul binary64 two (p .«grid_align_xh»)) xheight ≡ pos (alignLimit p xheight)
+  pub demand3 : Demand3 rects (alignLimit p xheight) (p .«grid_min_boxes»)
