@@ -1,3 +1,10 @@
 -- Why the grids are right: laws that belong to no one function.
 pub mod Similar
 pub mod SameParent
+pub mod Writing
+pub mod ReadingOrder
+pub mod Choosing
+pub mod Demand
+pub mod Filling
+pub mod Passing
+pub mod Accepting

@@ -1,0 +1,48 @@
+// Closed sets of boxes, their reading order and the grids among them: the core, which asks for what the questions show.
+ghost use mathlib.Core.Path.{_≡_};
+ghost use Rattle.rects.specs.Rects.{count};
+ghost use Rattle.grids.specs.Boxes.{alignLimit};
+ghost use Rattle.grids.specs.Steps.{Given, Settled, Roomy, Filled};
+use crate::reading;
+use crate::touch;
+use params::settings::RulingsParams;
+
+// round(2 * grid_align_xh * xheight), for settings and an x-height that passed their questions.
+pub fn limit(p: RulingsParams, xheight: f64) -> u64
+    requires { ⌜ Settled p xheight ⌝ }
+    ensures { λ r. ⌜ r ≡ alignLimit p xheight ⌝ }
+{
+    math::rounding::rounded_product(2.0 * p.grid_align_xh, xheight) as u64
+}
+
+// How many sets and grids there are.
+pub struct Counts {
+    pub sets: usize,
+    pub grids: usize,
+}
+
+// Lists the closed sets of the boxes, the reading order of each, and which of them are grids. Once the sets are listed, the parents hold
+// the order of one set after another.
+pub fn find(
+    rects: &[u32],
+    limit: u64,
+    least: u32,
+    members: &mut [u32],
+    ends: &mut [u32],
+    reading: &mut [u32],
+    numbers: &mut [u32],
+    parents: &mut [u32],
+    work: &mut [u32],
+    keys: &mut [u64],
+) -> Counts
+    requires { ⌜ Given (now rects) × Roomy (count (now rects)) (record { members = now members; ends = now ends; reading = now reading; numbers = now numbers; parents = now parents; work = now work; keys = now keys }) ⌝ }
+    ensures { λ r. ⌜ Filled (now (rects .entry)) limit least
+        (record { members = now (members .entry); ends = now (ends .entry); reading = now (reading .entry); numbers = now (numbers .entry); parents = now (parents .entry); work = now (work .entry); keys = now (keys .entry) })
+        (record { members = now (members .exit); ends = now (ends .exit); reading = now (reading .exit); numbers = now (numbers .exit); parents = now (parents .exit); work = now (work .exit); keys = now (keys .exit) })
+        (r .sets) (r .grids) ⌝ }
+{
+    let sets = touch::connect(rects, limit, parents, members, ends, work);
+    reading::read_sets(rects, members, ends, sets, reading, parents, work, keys);
+    let grids = reading::choose(members, ends, sets, least, numbers);
+    Counts { sets, grids }
+}
