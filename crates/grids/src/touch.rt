@@ -3,7 +3,7 @@ ghost use mathlib.Core.Path.{_≡_};
 ghost use mathlib.Core.Bool.{not, _&&_};
 ghost use Prim.Native.Nat.{_+_, _<_, _≤_, _^_};
 ghost use lib.ListN.{length};
-ghost use Rattle.rects.specs.Rects.{count, Inside};
+ghost use Rattle.rects.specs.Rects.{widthOf, count, Inside};
 ghost use Rattle.sets.specs.Closed.{Below};
 ghost use Rattle.sets.specs.Joins.{Joins, Seen};
 ghost use Rattle.sets.specs.Parents.{Room};
@@ -30,6 +30,14 @@ fn similar(a: u32, b: u32) -> bool
     distance(a, b) as f64 <= 0.3 * larger(a, b) as f64
 }
 
+// What is compared of two boxes: the width alone.
+fn size(r: Rect) -> u32
+    requires { ⌜ Inside 8192 8192 r ⌝ }
+    ensures { λ s. ⌜ s ≡ widthOf r ⌝ }
+{
+    r.width()
+}
+
 // Does either doubled centre differ by at most the limit?
 fn aligned(a: Rect, b: Rect, limit: u64) -> bool
     requires { ⌜ Inside 8192 8192 a × Inside 8192 8192 b ⌝ }
@@ -50,7 +58,7 @@ fn touches(a: Rect, b: Rect, limit: u64, joined: bool) -> bool
     if !aligned(a, b, limit) {
         return false;
     }
-    similar(a.width(), b.width())
+    similar(size(a), size(b))
 }
 
 // Joins box i with every later box that it touches. Two with one parent are in one set already.

@@ -13,17 +13,17 @@ aligned-requires c κs = search needs
 returns-2 : tie.Need-returns-2
 returns-2 c = not-aligned (c .before .before .before .args .limit) (c .before .before .before .args .a) (c .before .before .before .args .b) (c .before .before .if1 .left) (c .before .aligned .ensures) (c .if2 .taken)
 
-width-requires : tie.Need-width-requires
-width-requires c κs = search needs
+size-requires : tie.Need-size-requires
+size-requires c κs = search needs
 
-width-requires-2 : tie.Need-width-requires-2
-width-requires-2 c κs = search needs
+size-requires-2 : tie.Need-size-requires-2
+size-requires-2 c κs = search needs
 
 similar-requires : tie.Need-similar-requires
 similar-requires c κs = search needs
 
 returns-3 : tie.Need-returns-3
-returns-3 c = then-similar (c .before .before .before .before .before .before .args .limit) (c .before .before .before .before .before .before .args .a) (c .before .before .before .before .before .before .args .b) (c .before .before .before .before .before .if1 .left) (c .before .before .before .before .aligned .ensures) (c .before .before .before .if2 .left) (c .before .before .width .ensures) (c .before .width2 .ensures) (c .similar .ensures)
+returns-3 c = then-similar (c .before .before .before .before .before .before .args .limit) (c .before .before .before .before .before .before .args .a) (c .before .before .before .before .before .before .args .b) (c .before .before .before .before .before .if1 .left) (c .before .before .before .before .aligned .ensures) (c .before .before .before .if2 .left) (c .before .before .size .ensures) (c .before .size2 .ensures) (c .similar .ensures)
 
 pub touches-spec : {M : Type 1} → statement M
 touches-spec =
@@ -32,7 +32,7 @@ touches-spec =
     returns
     aligned-requires
     returns-2
-    width-requires
-    width-requires-2
+    size-requires
+    size-requires-2
     similar-requires
     returns-3)
