@@ -288,6 +288,36 @@ struct lanegravel_boxes_answer lanegravel_boxes(
     uint32_t *rects, size_t rects_count, uint32_t *marks, size_t marks_count,
     double *coverages, size_t coverages_count);
 
+/* What lanegravel_box_grids found: the number of the first missed question, 0 where none is missed,
+ * and how many sets and grids there are; both 0 where a question is missed. */
+struct lanegravel_grids_answer {
+    uint32_t number;
+    size_t sets;
+    size_t grids;
+};
+
+/* Grids among boxes. A box is a rectangle of `rects` (x0, y0, x1, y1, both ends inside); its index is
+ * its place. Two boxes touch when their widths differ by at most 0.3 * the larger, in binary64, and
+ * either doubled centre, x0 + x1 or y0 + y1, differs by at most round(2 * grid_align_xh * xheight).
+ * The questions, in order:
+ *    2  xheight is finite, above 0 and at most 4,096;
+ *    5  there are at most 16,384 boxes, four numbers each;
+ *    6  every rectangle is ordered, its coordinates below 8,192;
+ *    7 to 11, 13  the settings are in their ranges;
+ *   14  every list has an entry for each box.
+ * A refused call writes nothing. An accepted one writes, each from the front, and keeps the rest:
+ *   members, ends      the closed sets by smallest index, members ascending, and the end of each set;
+ *   reading            the members of each set by y0, then x0, then index, in the places of the set;
+ *   numbers            for each grid, a set of at least grid_min_boxes, the number of its set,
+ *                      ascending.
+ * parents, work and keys are work lists: after an accepted call their content is free. */
+struct lanegravel_grids_answer lanegravel_box_grids(
+    double xheight, struct lanegravel_rulings_params p, const uint32_t *rects, size_t rects_count,
+    uint32_t *members, size_t members_count, uint32_t *ends, size_t ends_count,
+    uint32_t *reading, size_t reading_count, uint32_t *numbers, size_t numbers_count,
+    uint32_t *parents, size_t parents_count, uint32_t *work, size_t work_count,
+    uint64_t *keys, size_t keys_count);
+
 #ifdef __cplusplus
 }
 #endif

@@ -2,6 +2,7 @@
 // `requires`, so nothing has to be vetted before a call. include/lanegravel.h declares them for C.
 mod box_call;
 mod floats;
+mod grid_call;
 mod grouping;
 mod joining;
 mod levelling;
