@@ -26,6 +26,8 @@ use Rattle.shapes.specs.Shapes.{linesOf, isTable}
 use Rattle.meeting.specs.Meeting.{joinedEnds, shareOf}
 use Rattle.table_lists.specs.Answers.{tableNumbers, freeNumbers}
 use Rattle.tables.specs.Call as Tables
+use Rattle.grids.specs.Boxes as Boxes
+use Rattle.grids.specs.Grids as Grids
 
 -- What the definition computes, and what document 01 says; both as numbers.
 pub record Row : Type 0 where
@@ -131,11 +133,20 @@ numbers r = r .x0 ∷ r .y0 ∷ r .x1 ∷ r .y1 ∷ []
 abbrev pub whole : Row
 whole = record { computed = numbers (rectToPage twoByOne shear shear-x (rect 0 0 1 1)); said = 0 ∷ 0 ∷ 1 ∷ 0 ∷ [] }
 
--- The table, for every two grey values a and b.
-abbrev pub starred : ℕ → ℕ → List Row
-starred a b = gaps ∷ across ∷ square ∷ lines ∷ joinedEnd ∷ oneByOne ∷ freeList ∷ levelling a b ∷ whole ∷ []
+-- "Widths 7 and 10 are similar; 6 and 10 aren't."
+abbrev pub similarWidths : Row
+similarWidths = record { computed = answer (Boxes.similar 7 10) ∷ answer (Boxes.similar 6 10) ∷ []; said = 1 ∷ 0 ∷ [] }
+
+-- "No boxes, no grids.", whatever the limit and the grid minimum.
+abbrev pub noBoxes : ℕ → ℕ → Row
+noBoxes limit least = record { computed = Grids.grids least (Grids.boxSets [] limit); said = [] }
+
+-- The table, for every two grey values a and b, every limit and every grid minimum.
+abbrev pub starred : ℕ → ℕ → ℕ → ℕ → List Row
+starred a b limit least =
+    gaps ∷ across ∷ square ∷ lines ∷ joinedEnd ∷ similarWidths ∷ oneByOne ∷ freeList ∷ levelling a b ∷ whole ∷ noBoxes limit least ∷ []
 
 -- In every row the definition computes what document 01 says.
-pub starred-hold : (a b : ℕ) → map (λ row. row .computed) (starred a b) ≡ map (λ row. row .said) (starred a b)
-unfolding rowOf raster columnShows placeShows touching horizontal centre2 start end joinsEnd Order.sortedBy Order.place Lines.lineAt Lines.linesTo Listing.grown Listing.closedSet Listing.closedSets segmentOf touches linesOf isTable tableNumbers freeNumbers joinedEnds shareOf Ieee.ofInt Ieee.div Ieee.round Ieee.eq
-starred-hold a b = refl
+pub starred-hold : (a b limit least : ℕ) → map (λ row. row .computed) (starred a b limit least) ≡ map (λ row. row .said) (starred a b limit least)
+unfolding rowOf raster columnShows placeShows touching horizontal centre2 start end joinsEnd Order.sortedBy Order.place Lines.lineAt Lines.linesTo Listing.grown Listing.closedSet Listing.closedSets segmentOf touches linesOf isTable tableNumbers freeNumbers joinedEnds shareOf Boxes.similar Grids.gridNumbers Ieee.ofInt Ieee.div Ieee.sub Ieee.mul Ieee.round Ieee.ofBits Ieee.isNan Ieee.lt Ieee.le Ieee.eq
+starred-hold a b limit least = refl
