@@ -1,7 +1,9 @@
 //! Compares the unchanged Rust with the static library, call by call, to the bit.
 //!
-//!     differential [--seed N] [--count N]    compare; status 1 where any answer differs
-//!     differential --replay DIR              write a fixed sample of the Rust's answers
+//!     differential [--seed N] [--count N] [--only NAME]
+//!         compare, all calls or those whose name has NAME in it; status 1 where any answer differs
+//!     differential --replay DIR
+//!         write a fixed sample of the Rust's answers
 
 use std::path::Path;
 use std::process::ExitCode;
@@ -100,9 +102,9 @@ const COMPARISONS: &[Comparison] = &[
     },
 ];
 
-fn compare(seed: u64, count: Option<u64>) -> ExitCode {
+fn compare(seed: u64, count: Option<u64>, only: &str) -> ExitCode {
     let mut agree = true;
-    for comparison in COMPARISONS {
+    for comparison in COMPARISONS.iter().filter(|c| c.name.contains(only)) {
         let count = count.unwrap_or(comparison.count);
         let tally = (comparison.run)(&mut Random::new(seed), count);
         println!("{}: {tally}", comparison.name);
@@ -129,7 +131,7 @@ fn replay(dir: &str) -> ExitCode {
 }
 
 fn main() -> ExitCode {
-    let (mut seed, mut count) = (1, None);
+    let (mut seed, mut count, mut only) = (1, None, String::new());
     let mut arguments = std::env::args().skip(1);
     while let Some(name) = arguments.next() {
         let value = arguments.next().unwrap_or_default();
@@ -137,11 +139,14 @@ fn main() -> ExitCode {
             ("--replay", _) if !value.is_empty() => return replay(&value),
             ("--seed", Ok(n)) => seed = n,
             ("--count", Ok(n)) => count = Some(n),
+            ("--only", _) => only = value,
             _ => {
-                eprintln!("usage: differential [--seed N] [--count N] | --replay DIR");
+                eprintln!(
+                    "usage: differential [--seed N] [--count N] [--only NAME] | --replay DIR"
+                );
                 return ExitCode::from(2);
             }
         }
     }
-    compare(seed, count)
+    compare(seed, count, &only)
 }
