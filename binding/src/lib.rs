@@ -5,6 +5,7 @@
 //! the list is empty; it goes with its own count; what it points to lives through the call; and
 //! lists that are written overlap nothing, since Rust lends each of them once.
 
+pub mod boxes;
 pub mod floats;
 pub mod grouping;
 pub mod layout;

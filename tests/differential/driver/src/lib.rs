@@ -1,9 +1,11 @@
 //! What the comparisons are made of; `bench` uses its inputs too.
 
+pub mod boxes;
 pub mod floats;
 pub mod flood;
 pub mod grouping;
 pub mod layout;
+pub mod masks;
 pub mod params;
 pub mod pieces;
 pub mod random;

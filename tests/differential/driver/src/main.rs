@@ -10,7 +10,7 @@ use std::process::ExitCode;
 
 use differential::random::Random;
 use differential::tally::Tally;
-use differential::{floats, grouping, layout, params, replay, segments, tables};
+use differential::{boxes, floats, grouping, layout, params, replay, segments, tables};
 
 /// One call of the library, with the number of random cases that it is tried on.
 struct Comparison {
@@ -99,6 +99,16 @@ const COMPARISONS: &[Comparison] = &[
         name: "tables",
         count: 400_000,
         run: tables::tables,
+    },
+    Comparison {
+        name: "boxes",
+        count: 400_000,
+        run: boxes::boxes,
+    },
+    Comparison {
+        name: "boxes on forms",
+        count: 300,
+        run: boxes::forms,
     },
 ];
 

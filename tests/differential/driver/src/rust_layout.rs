@@ -1,7 +1,7 @@
 //! The Rust's layout, by its public fields.
 
 use lanegravel_binding::layout::Page;
-use pagetriage::pixel::layout::{Layout, Rect};
+use pagetriage::pixel::layout::{GlyphBox, Layout, Rect};
 
 /// A page for levelling.
 pub fn layout(page: &Page) -> Layout {
@@ -25,6 +25,31 @@ pub fn with_rules(width: usize, height: usize, xheight: f64, pieces: &[u32]) -> 
         page_height: height,
         xheight,
         rules: pieces.chunks_exact(4).map(rect).collect(),
+        ..blank()
+    }
+}
+
+/// A levelled picture with its ink mask and glyph boxes, four numbers each.
+pub fn with_glyphs(
+    width: usize,
+    height: usize,
+    xheight: f64,
+    ink: &[u8],
+    glyphs: &[u32],
+) -> Layout {
+    let glyph = |r| GlyphBox {
+        bbox: rect(r),
+        area: 0,
+        line: None,
+    };
+    Layout {
+        width,
+        height,
+        page_width: width,
+        page_height: height,
+        xheight,
+        ink: ink.to_vec(),
+        glyphs: glyphs.chunks_exact(4).map(glyph).collect(),
         ..blank()
     }
 }
