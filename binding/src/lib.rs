@@ -7,6 +7,7 @@
 
 pub mod boxes;
 pub mod floats;
+pub mod grids;
 pub mod grouping;
 pub mod layout;
 pub mod segments;

@@ -1,8 +1,10 @@
 //! What the comparisons are made of; `bench` uses its inputs too.
 
+pub mod aligned;
 pub mod boxes;
 pub mod floats;
 pub mod flood;
+pub mod grids;
 pub mod grouping;
 pub mod layout;
 pub mod masks;

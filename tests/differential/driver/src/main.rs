@@ -10,7 +10,7 @@ use std::process::ExitCode;
 
 use differential::random::Random;
 use differential::tally::Tally;
-use differential::{boxes, floats, grouping, layout, params, replay, segments, tables};
+use differential::{boxes, floats, grids, grouping, layout, params, replay, segments, tables};
 
 /// One call of the library, with the number of random cases that it is tried on.
 struct Comparison {
@@ -109,6 +109,11 @@ const COMPARISONS: &[Comparison] = &[
         name: "boxes on forms",
         count: 300,
         run: boxes::forms,
+    },
+    Comparison {
+        name: "box_grids",
+        count: 200_000,
+        run: grids::box_grids,
     },
 ];
 
