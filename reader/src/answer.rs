@@ -51,12 +51,16 @@ pub fn list(key: &str, entries: &[u32]) -> String {
 /// The lines of a listing of sets: how many there are, and the members of each.
 pub fn sets(key: &str, members: &[u32], ends: &[u32]) -> String {
     let mut lines = format!("{key}s {}\n", ends.len());
-    let mut start = 0;
-    for end in ends.iter().map(|end| *end as usize) {
-        lines += &list(key, &members[start..end]);
-        start = end;
+    for set in 0..ends.len() {
+        lines += &list(key, part(members, ends, set));
     }
     lines
+}
+
+/// The members of one set of a listing.
+pub fn part<'a>(members: &'a [u32], ends: &[u32], set: usize) -> &'a [u32] {
+    let start = if set == 0 { 0 } else { ends[set - 1] };
+    &members[start as usize..ends[set] as usize]
 }
 
 /// FNV-1a of 64 bits.

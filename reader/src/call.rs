@@ -6,6 +6,7 @@ use lanegravel_binding::floats;
 
 use crate::Failure;
 use crate::answer::{Answer, float};
+use crate::boxes::{boxes, grids};
 use crate::fields::{Fields, Kind};
 use crate::levelling::{level, map};
 use crate::rulings::{segments, tables};
@@ -38,14 +39,14 @@ const CALLS: [Kind; 7] = [
         keys: &["levelled", "dpi", "xheight", "glyphs", "ink"],
         settings: true,
         rooms: &["boxes"],
-        answer: None,
+        answer: Some(boxes),
     },
     Kind {
         name: "call grids",
         keys: &["xheight", "boxes"],
         settings: true,
         rooms: &["index_glyphs"],
-        answer: None,
+        answer: Some(grids),
     },
     Kind {
         name: "call map",

@@ -1,6 +1,7 @@
 //! The reader over Lanegravel's static library: texts in, answers out (docs/FORMAT.md). The library decides every question put to a page; nothing here does.
 
 pub mod answer;
+mod boxes;
 pub mod call;
 pub mod fields;
 mod levelling;

@@ -19,7 +19,7 @@ both. A refused text is an answer: it names the first question that was missed.
 
   --sets   in the answer to a page, list the closed sets too
 
-Answered today: calls level, segments, tables, map and sum.
+Answered today: calls level, segments, tables, boxes, grids, map and sum.
 
 Exit status:
   0  every text was answered
