@@ -2,6 +2,7 @@
 //!
 //!     bench [NAME]    a row a measurement: both medians, and ours over the Rust's
 
+mod boxes;
 mod grouping;
 mod levelling;
 mod rulings;
@@ -19,7 +20,8 @@ fn main() {
         .into_iter()
         .chain(levelling::MEASUREMENTS)
         .chain(rulings::MEASUREMENTS)
-        .chain(stages::MEASUREMENTS);
+        .chain(stages::MEASUREMENTS)
+        .chain(boxes::MEASUREMENTS);
     for (name, measure) in all {
         if name.contains(only.as_str()) {
             println!("| {name} | {} |", measure());
