@@ -55,7 +55,7 @@ fn contrast_of(raster: &[u8], h: usize) -> f64 {
 }
 
 // Settings that miss no question.
-fn settings() -> RulingsParams {
+pub fn settings() -> RulingsParams {
     RulingsParams {
         merge_across_xh: 0.0,
         merge_gap_xh: 0.0,
