@@ -4,6 +4,7 @@
 use words::Word;
 
 mod floats;
+mod pages;
 mod pieces;
 mod rulings;
 mod settings;
@@ -38,8 +39,7 @@ fn answer(text: &[u8], at: usize) -> usize {
         2 => print(floats::round_output(text, next)),
         3 => print(floats::rounded_product(text, next)),
         4 => print(floats::round(text, next)),
-        5 => pieces::segments(text, next),
-        6 => rulings::tables(text, next),
+        5..=6 => pages::page(text, next, number),
         _ => text.len(),
     }
 }

@@ -1,51 +1,7 @@
-// The stored calls of `tables`: x-height, settings, rectangles, directions. No page has more than 16
-// rulings, and every list is lent whole.
-use crate::settings;
+// Answers to `tables`. Every list is lent whole.
 use crate::settings::Given;
 use crate::words;
 use crate::written;
-
-pub fn tables(text: &[u8], at: usize) -> usize {
-    let given = settings::read(text, at);
-    let mut rects = [0u32; 64];
-    some_rects(text, given, &mut rects)
-}
-
-fn some_rects(text: &[u8], given: Given, rects: &mut [u32]) -> usize {
-    let count = words::read_word(text, given.next);
-    let n = words::at_most(count.value, rects.len());
-    all_rects(text, count.next, given, &mut rects[..n])
-}
-
-fn all_rects(text: &[u8], at: usize, given: Given, rects: &mut [u32]) -> usize {
-    let next = words::read_wholes(text, at, rects);
-    let mut directions = [0u32; 20];
-    some_directions(text, next, given, rects, &mut directions)
-}
-
-fn some_directions(
-    text: &[u8],
-    at: usize,
-    given: Given,
-    rects: &[u32],
-    directions: &mut [u32],
-) -> usize {
-    let count = words::read_word(text, at);
-    let n = words::at_most(count.value, directions.len());
-    all_directions(text, count.next, given, rects, &mut directions[..n])
-}
-
-fn all_directions(
-    text: &[u8],
-    at: usize,
-    given: Given,
-    rects: &[u32],
-    directions: &mut [u32],
-) -> usize {
-    let next = words::read_wholes(text, at, directions);
-    answer(given, rects, directions);
-    next
-}
 
 // Writes the number and the count of tables, and for each its set's number, rectangle, rows, columns,
 // rulings and share, list by list.
@@ -88,7 +44,7 @@ fn write_sets(
 }
 
 // Writes what the call answers: tables, free list, sets.
-fn answer(given: Given, rects: &[u32], directions: &[u32]) {
+pub fn answer(given: Given, rects: &[u32], directions: &[u32]) {
     let mut members = [0u32; 16];
     let mut ends = [0u32; 16];
     let mut numbers = [0u32; 16];

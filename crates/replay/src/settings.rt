@@ -1,23 +1,34 @@
-// The x-height and the settings of a stored call: the 25 floats, then the five counts, each in the
-// settings' order.
+// What a stored page is given by value: sides, resolution, x-height and settings. The settings are the
+// 25 floats, then the five counts, each in the settings' order; a call without a picture has sides 0.
 use crate::floats;
 use crate::words;
 use params::settings::RulingsParams;
 
-// Both, and the place past them.
+// The number of the call, what it is given, and the place past that.
 pub struct Given {
+    pub call: u64,
+    pub w: usize,
+    pub h: usize,
+    pub dpi: u16,
     pub xheight: f64,
     pub p: RulingsParams,
     pub next: usize,
 }
 
-pub fn read(text: &[u8], at: usize) -> Given {
-    let xheight = words::read_word(text, at);
+pub fn read(text: &[u8], at: usize, call: u64) -> Given {
+    let w = words::read_word(text, at);
+    let h = words::read_word(text, w.next);
+    let dpi = words::read_word(text, h.next);
+    let xheight = words::read_word(text, dpi.next);
     let mut floats = [0.0; 25];
     let mut counts = [0; 5];
     let behind = floats::read_floats(text, xheight.next, &mut floats);
     let next = words::read_wholes(text, behind, &mut counts);
     Given {
+        call,
+        w: w.value as usize,
+        h: h.value as usize,
+        dpi: words::short_of(dpi.value),
         xheight: floats::float_of(xheight.value),
         p: RulingsParams {
             merge_across_xh: floats[0],

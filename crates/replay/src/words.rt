@@ -52,6 +52,11 @@ pub fn whole_of(value: u64) -> u32 {
     (value % 0x1_0000_0000) as u32
 }
 
+// A number of 16 bits.
+pub fn short_of(value: u64) -> u16 {
+    (value % 0x1_0000) as u16
+}
+
 // A byte: the low bits of a word.
 fn byte_of(value: u64) -> u8 {
     (value % 256) as u8

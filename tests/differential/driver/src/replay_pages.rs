@@ -42,12 +42,22 @@ impl Line {
         self.wholes(list);
     }
 
-    /// The x-height, the 25 floats, the five counts.
-    fn settings(&mut self, xheight: f64, p: &RulingsParams) {
+    /// The number of a call and what it is given by value.
+    fn call(number: u64, [w, h, dpi]: [usize; 3], xheight: f64, p: &RulingsParams) -> Self {
+        let mut line = Line(format!("{number:x} {w:x} {h:x} {dpi:x}"));
         let mut p = *p;
-        self.floats(&[xheight]);
-        self.floats(&params::floats(&mut p).map(|x| *x));
-        self.wholes(&params::counts(&mut p).map(|x| *x));
+        line.floats(&[xheight]);
+        line.floats(&params::floats(&mut p).map(|x| *x));
+        line.wholes(&params::counts(&mut p).map(|x| *x));
+        line
+    }
+
+    /// The lists that every call has, each empty where it has none.
+    fn lists(mut self, rects: &[u32], directions: &[u32], bytes: &[u8]) -> String {
+        self.list(rects);
+        self.list(directions);
+        self.list(&bytes.iter().map(|&x| x.into()).collect::<Vec<_>>());
+        self.0
     }
 }
 
@@ -61,13 +71,10 @@ pub fn add_segments(sample: &mut Sample, random: &mut Random) {
         if page.raster.len() > PIXELS || page.pieces.len() > RECTS {
             continue;
         }
-        let mut call = Line("5".into());
-        call.word(page.width as u64);
-        call.word(page.height as u64);
-        call.settings(page.xheight, &page.params);
-        call.list(&page.pieces);
-        call.list(&page.raster.iter().map(|&x| x.into()).collect::<Vec<_>>());
-        sample.add_line(&call.0, &rulings(&page).0);
+        let picture = [page.width, page.height, 0];
+        let call = Line::call(5, picture, page.xheight, &page.params);
+        let call = call.lists(&page.pieces, &[], &page.raster);
+        sample.add_line(&call, &rulings(&page).0);
         added += 1;
     }
 }
@@ -102,11 +109,9 @@ pub fn add_tables(sample: &mut Sample, random: &mut Random) {
         if page.rects.len() > RECTS || page.directions.len() > DIRECTIONS {
             continue;
         }
-        let mut call = Line("6".into());
-        call.settings(page.xheight, &page.p);
-        call.list(&page.rects);
-        call.list(&page.directions);
-        sample.add_line(&call.0, &found(&page).0);
+        let call = Line::call(6, [0, 0, 0], page.xheight, &page.p);
+        let call = call.lists(&page.rects, &page.directions, &[]);
+        sample.add_line(&call, &found(&page).0);
         added += 1;
     }
 }

@@ -1,9 +1,9 @@
--- `replay::rulings::some_directions` is safe: the part that it lends is no longer than the list. Assumes nothing.
+-- `replay::pages::some_directions` is safe: the part that it lends is no longer than the list. Assumes nothing.
 use mathlib.Core.Path.{sym}
 use lib.Seq.{length-take-le}
 use borrow.Author.Needs.{needs}
-use Rattle.replay.proofs.rulings.some_directions.Statement.{statement}
-use Rattle.replay.proofs.rulings.some_directions.Tie as tie
+use Rattle.replay.proofs.pages.some_directions.Statement.{statement}
+use Rattle.replay.proofs.pages.some_directions.Tie as tie
 
 read-word-requires : tie.Need-read-word-requires
 read-word-requires c κs = search needs

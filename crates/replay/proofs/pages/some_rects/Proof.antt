@@ -1,9 +1,9 @@
--- `replay::rulings::some_rects` is safe: the part that it lends is no longer than the list. Assumes nothing.
+-- `replay::pages::some_rects` is safe: the part that it lends is no longer than the list. Assumes nothing.
 use mathlib.Core.Path.{sym}
 use lib.Seq.{length-take-le}
 use borrow.Author.Needs.{needs}
-use Rattle.replay.proofs.rulings.some_rects.Statement.{statement}
-use Rattle.replay.proofs.rulings.some_rects.Tie as tie
+use Rattle.replay.proofs.pages.some_rects.Statement.{statement}
+use Rattle.replay.proofs.pages.some_rects.Tie as tie
 
 read-word-requires : tie.Need-read-word-requires
 read-word-requires c κs = search needs
