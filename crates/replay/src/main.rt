@@ -4,10 +4,12 @@
 use words::Word;
 
 mod floats;
+mod glyphs;
 mod pages;
 mod pieces;
 mod rulings;
 mod settings;
+mod squares;
 mod words;
 mod written;
 
@@ -39,7 +41,7 @@ fn answer(text: &[u8], at: usize) -> usize {
         2 => print(floats::round_output(text, next)),
         3 => print(floats::rounded_product(text, next)),
         4 => print(floats::round(text, next)),
-        5..=6 => pages::page(text, next, number),
+        5..=8 => pages::page(text, next, number),
         _ => text.len(),
     }
 }

@@ -1,10 +1,12 @@
 // The stored calls about pages: what is given by value, then rectangles, directions and bytes (the
 // raster or the ink), each a list, empty where the call has none. No page has more than 16 rectangles
 // and 1,024 pixels.
+use crate::glyphs;
 use crate::pieces;
 use crate::rulings;
 use crate::settings;
 use crate::settings::Given;
+use crate::squares;
 use crate::words;
 
 // Answers the call of this number that goes on at `at`, and returns the place past it.
@@ -75,7 +77,9 @@ fn all_bytes(
     let call = given.call;
     match call {
         5 => pieces::answer(given, rects, bytes),
-        _ => rulings::answer(given, rects, directions),
+        6 => rulings::answer(given, rects, directions),
+        7 => glyphs::answer(given, rects, bytes),
+        _ => squares::answer(given, rects),
     }
     next
 }

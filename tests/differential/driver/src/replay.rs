@@ -67,6 +67,8 @@ pub fn write(dir: &Path) -> io::Result<usize> {
     add_random(&mut sample, random);
     pages::add_segments(&mut sample, random);
     pages::add_tables(&mut sample, random);
+    pages::add_boxes(&mut sample, random);
+    pages::add_grids(&mut sample, random);
     fs::create_dir_all(dir)?;
     fs::write(dir.join("stdin"), sample.calls)?;
     fs::write(dir.join("stdout"), sample.answers)?;

@@ -1,13 +1,14 @@
 //! The pages of the replayed sample: small ones, so that a program without a heap can hold them.
 
-use lanegravel_binding::segments::Lent;
+use lanegravel_binding::grids::GridsLists;
+use lanegravel_binding::segments::{Lent, Page};
 use lanegravel_binding::settings::RulingsParams;
 use lanegravel_binding::tables::TablesLists;
 
 use crate::random::Random;
 use crate::replay::Sample;
 use crate::tally::bits;
-use crate::{params, pieces, ruled, segments, tables};
+use crate::{aligned, boxes, grids, masks, params, pieces, ruled, segments, tables};
 
 /// How many pages of each call there are, accepted and spoilt ones by turns of three.
 const PAGES: usize = 48;
@@ -80,7 +81,7 @@ pub fn add_segments(sample: &mut Sample, random: &mut Random) {
 }
 
 /// The number, the count, then list after list.
-fn rulings(page: &lanegravel_binding::segments::Page) -> Line {
+fn rulings(page: &Page) -> Line {
     let mut line = Line::default();
     let lent = Lent::with_room(ROOM, ROOM);
     let number = segments::question(page, &lent);
@@ -136,5 +137,81 @@ fn found(page: &ruled::Page) -> Line {
     line.list(&l.free[..free]);
     line.list(&l.ends[..sets]);
     line.wholes(&l.members[..page.directions.len()]);
+    line
+}
+
+/// Every third page has a box at least.
+pub fn add_boxes(sample: &mut Sample, random: &mut Random) {
+    let mut added = 0;
+    while added < PAGES {
+        let mut page = masks::small(random);
+        if added % 3 == 2 {
+            boxes::spoil(random, &mut page);
+        }
+        if page.ink.len() > PIXELS || page.glyphs.len() > RECTS {
+            continue;
+        }
+        let answer = marked(&page).0;
+        if added % 3 == 0 && answer == " 0 0" {
+            continue;
+        }
+        let picture = [page.width, page.height, page.dpi.into()];
+        let call = Line::call(7, picture, page.xheight, &page.params);
+        let call = call.lists(&page.glyphs, &[], &page.ink);
+        sample.add_line(&call, &answer);
+        added += 1;
+    }
+}
+
+/// The number, the count, then list after list.
+fn marked(page: &lanegravel_binding::boxes::Page) -> Line {
+    let mut line = Line::default();
+    let lent = lanegravel_binding::boxes::Lent::with_room(ROOM);
+    let number = boxes::question(page, &lent);
+    line.word(number.into());
+    if number != 0 {
+        line.word(0);
+        return line;
+    }
+    let (count, l) = boxes::accepted(page, &lent);
+    line.word(count as u64);
+    line.wholes(&l.rects[..4 * count]);
+    line.wholes(&l.marks[..count]);
+    line.floats(&l.coverages[..count]);
+    line
+}
+
+pub fn add_grids(sample: &mut Sample, random: &mut Random) {
+    let mut added = 0;
+    while added < PAGES {
+        let mut page = aligned::small(random);
+        if added % 3 == 2 {
+            aligned::spoil(random, &mut page);
+        }
+        if page.rects.len() > RECTS {
+            continue;
+        }
+        let call = Line::call(8, [0, 0, 0], page.xheight, &page.p);
+        let call = call.lists(&page.rects, &[], &[]);
+        sample.add_line(&call, &grouped(&page).0);
+        added += 1;
+    }
+}
+
+/// The number, the set numbers of the grids and the ends of the sets, the members, the reading order.
+fn grouped(page: &aligned::Page) -> Line {
+    let mut line = Line::default();
+    let number = aligned::question(page, true);
+    line.word(number.into());
+    if number != 0 {
+        line.wholes(&[0, 0]);
+        return line;
+    }
+    let n = page.rects.len() / 4;
+    let ([sets, grids], l) = grids::wanted(page, &GridsLists::with_room(ROOM));
+    line.list(&l.numbers[..grids]);
+    line.list(&l.ends[..sets]);
+    line.wholes(&l.members[..n]);
+    line.wholes(&l.reading[..n]);
     line
 }
