@@ -26,13 +26,7 @@ pub const MEASUREMENTS: [(&str, fn() -> Times); 4] = [
 ];
 
 fn find(page: Page) -> Times {
-    let layout = with_glyphs(
-        page.width,
-        page.height,
-        page.xheight,
-        &page.ink,
-        &page.glyphs,
-    );
+    let layout = with_glyphs(&page);
     let p = params::rust(&page.params);
     let mut lent = Lent::with_room(page.glyphs.len() / 4);
     let found = ffi::boxes(&page, &mut lent);

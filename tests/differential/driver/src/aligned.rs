@@ -3,11 +3,11 @@
 use lanegravel_binding::settings::RulingsParams;
 
 use crate::flood::flood;
-use crate::params::{self, VALID};
+use crate::params::VALID;
+use crate::questions::{self, LARGEST_SIDE};
 use crate::random::Random;
 
 pub const MOST_BOXES: usize = 16_384;
-const COORDINATES: u32 = 8192;
 
 /// What a call is given.
 #[derive(Debug)]
@@ -92,7 +92,7 @@ fn beside(random: &mut Random, page: &Page) -> [u32; 4] {
     } else {
         [x0 + far, y0 + near, x1 + far, y1 + near + longer]
     };
-    if moved.iter().all(|&c| c < COORDINATES) {
+    if moved.iter().all(|&c| (c as usize) < LARGEST_SIDE) {
         moved
     } else {
         [x0, y0, x1, y1]
@@ -103,54 +103,31 @@ fn beside(random: &mut Random, page: &Page) -> [u32; 4] {
 fn resized(random: &mut Random, page: &Page) -> [u32; 4] {
     let [x0, y0, _, y1] = other(random, page);
     let width = random.pick(&[6, 7, 10, 13, 14, 20, 69, 70, 71, 100]);
-    let x0 = x0.min(COORDINATES - width);
+    let x0 = x0.min(LARGEST_SIDE as u32 - width);
     [x0, y0, x0 + width - 1, y1]
 }
 
 /// One change that misses a question, or may.
 pub fn spoil(random: &mut Random, page: &mut Page) {
-    let n = page.rects.len() / 4;
-    match random.below(11) {
-        0 => page.xheight = random.pick(&[0.0, -1.0, f64::NAN, f64::INFINITY, 4096.5]),
+    match random.below(10) {
+        0 => page.xheight = questions::bad_xheight(random),
         1 => page.rects.push(0),
         2 if random.below(50) == 0 => page.rects.resize(4 * (MOST_BOXES + 1), 0),
-        3 if n > 0 => {
-            let k = 4 * random.below(n as u64) as usize;
-            page.rects[k] = page.rects[k + 2].saturating_add(1);
-        }
-        2..=4 if n > 0 => {
-            let k = random.below(4 * n as u64) as usize;
-            page.rects[k] = random.pick(&[COORDINATES - 1, COORDINATES, u32::MAX]);
-        }
-        2..=5 => page.p.table_prior = random.pick(&[1.1e6, -1.1e6, f64::NAN]),
-        6 => page.p.grid_align_xh = random.pick(&[-0.5, -f64::MIN_POSITIVE]),
-        7 => page.p.box_max_xh = page.p.box_min_xh.next_down(),
-        8 => page.p.box_checked_ink = -0.5,
-        9 => page.p.grid_min_boxes = random.pick(&[0, 1]),
-        _ => page.p.min_free_rules = 0,
+        2..=4 => questions::move_outside(random, &mut page.rects, LARGEST_SIDE, LARGEST_SIDE),
+        _ => questions::spoil_settings(random, &mut page.p),
     }
 }
 
 /// The number of the first missed question of document 01, said here in plain Rust; `room` says
 /// whether 14 is met.
 pub fn question(page: &Page, room: bool) -> u32 {
-    let ordered = |r: &[u32]| r[0] <= r[2] && r[1] <= r[3];
-    let settings = params::first_missed(&page.p);
-    let questions = [
-        (2, page.xheight > 0.0 && page.xheight <= 4_096.0),
-        (
-            5,
-            page.rects.len() % 4 == 0 && page.rects.len() / 4 <= MOST_BOXES,
-        ),
-        (
-            6,
-            page.rects.chunks_exact(4).all(ordered) && page.rects.iter().all(|&c| c < COORDINATES),
-        ),
-        (settings, settings == 0),
+    questions::first_missed(&[
+        questions::xheight(page.xheight),
+        questions::rectangles(&page.rects, MOST_BOXES),
+        questions::inside(&page.rects, LARGEST_SIDE, LARGEST_SIDE),
+        questions::settings(&page.p),
         (14, room),
-    ];
-    let missed = questions.iter().find(|(_, yes)| !yes);
-    missed.map_or(0, |&(number, _)| number)
+    ])
 }
 
 /// The closed sets of boxes, by smallest index.

@@ -6,11 +6,11 @@ use pagetriage::pixel::rulings;
 
 use crate::masks;
 use crate::params;
+use crate::questions;
 use crate::random::Random;
 use crate::rust_layout::with_glyphs;
 use crate::tally::{Tally, bits};
 
-const LARGEST_SIDE: usize = 8192;
 pub const MOST_GLYPHS: usize = 16_384;
 
 /// Small masks, and now and then one with as many glyph boxes as there may be.
@@ -69,13 +69,7 @@ fn words(number: u32, count: usize, lent: &Lent) -> Vec<u64> {
 
 /// What an accepted page answers: the Rust's boxes.
 pub fn accepted(page: &Page, lent: &Lent) -> (usize, Lent) {
-    let layout = with_glyphs(
-        page.width,
-        page.height,
-        page.xheight,
-        &page.ink,
-        &page.glyphs,
-    );
+    let layout = with_glyphs(page);
     let boxes = rulings::boxes(&layout, page.dpi, &params::rust(&page.params));
     let mut written = lent.clone();
     for (k, found) in boxes.iter().enumerate() {
@@ -109,40 +103,27 @@ fn lend(random: &mut Random, page: &Page) -> Lent {
 
 /// The number of the first missed question of document 01, said here in plain Rust.
 pub fn question(page: &Page, lent: &Lent) -> u32 {
-    let side = |n: usize| (1..=LARGEST_SIDE).contains(&n);
     let n = page.glyphs.len() / 4;
-    let inside = |r: &[u32]| {
-        r[0] <= r[2]
-            && r[1] <= r[3]
-            && (r[2] as usize) < page.width
-            && (r[3] as usize) < page.height
-    };
     let places = page.width as u128 * page.height as u128;
-    let settings = params::first_missed(&page.params);
     let room = lent.rects.len() >= 4 * n && lent.marks.len() >= n && lent.coverages.len() >= n;
-    let questions = [
-        (1, side(page.width) && side(page.height)),
-        (
-            2,
-            page.dpi != 0 && page.xheight > 0.0 && page.xheight <= 4_096.0,
-        ),
+    questions::first_missed(&[
+        questions::sides(page.width, page.height),
+        (2, page.dpi != 0),
+        questions::xheight(page.xheight),
         (3, page.ink.len() as u128 == places),
-        (5, page.glyphs.len() % 4 == 0 && n <= MOST_GLYPHS),
-        (6, page.glyphs.chunks_exact(4).all(inside)),
-        (settings, settings == 0),
+        questions::rectangles(&page.glyphs, MOST_GLYPHS),
+        questions::inside(&page.glyphs, page.width, page.height),
+        questions::settings(&page.params),
         (14, room),
-    ];
-    let missed = questions.iter().find(|(_, yes)| !yes);
-    missed.map_or(0, |&(number, _)| number)
+    ])
 }
 
 /// One change that may miss a question.
 pub fn spoil(random: &mut Random, page: &mut Page) {
-    let huge = [0, LARGEST_SIDE + 1, 1 << 40, usize::MAX];
-    match random.below(13) {
-        0 => page.width = random.pick(&huge),
-        1 => page.height = random.pick(&huge),
-        2 => page.xheight = random.pick(&[0.0, -0.0, -1.0, 4_096.5, f64::INFINITY, f64::NAN]),
+    match random.below(14) {
+        0 => page.width = questions::bad_side(random),
+        1 => page.height = questions::bad_side(random),
+        2 => page.xheight = questions::bad_xheight(random),
         3 => page.dpi = 0,
         4 => page.ink.push(0),
         5 => {
@@ -150,22 +131,7 @@ pub fn spoil(random: &mut Random, page: &mut Page) {
         }
         6 if random.below(50) == 0 => page.glyphs = vec![0; 4 * (MOST_GLYPHS + 1)],
         6 => page.glyphs.push(0),
-        7 | 8 => outside(random, page),
-        9 => page.params.grid_prior = random.pick(&[1.1e6, -1.1e6, f64::NAN]),
-        10 => page.params.box_min_in = random.pick(&[-1.0, -f64::MIN_POSITIVE]),
-        11 if random.below(2) == 0 => page.params.box_max_xh = page.params.box_min_xh.next_down(),
-        11 => page.params.box_edge_coverage = 1.0f64.next_up(),
-        _ if random.below(2) == 0 => page.params.grid_min_boxes = 1,
-        _ => page.params.min_free_rules = 0,
+        7 | 8 => questions::move_outside(random, &mut page.glyphs, page.width, page.height),
+        _ => questions::spoil_settings(random, &mut page.params),
     }
-}
-
-/// One coordinate moved to or past the picture's edge.
-fn outside(random: &mut Random, page: &mut Page) {
-    if page.glyphs.is_empty() {
-        return;
-    }
-    let at = random.below(page.glyphs.len() as u64) as usize;
-    let edge = if at % 2 == 0 { page.width } else { page.height } as u32;
-    page.glyphs[at] = random.pick(&[edge, edge.wrapping_sub(1), 0, u32::MAX]);
 }

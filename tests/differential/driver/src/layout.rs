@@ -4,11 +4,10 @@
 use lanegravel_binding::layout::{self as ffi, Page};
 use pagetriage::pixel::layout::Rect;
 
+use crate::questions::{self, LARGEST_SIDE};
 use crate::random::Random;
 use crate::rust_layout::layout;
 use crate::tally::Tally;
-
-const LARGEST_SIDE: usize = 8192;
 
 /// The whole levelled raster, or every lent byte as it was.
 pub fn level_gray(random: &mut Random, count: u64) -> Tally {
@@ -183,7 +182,7 @@ fn spoil(random: &mut Random, page: &mut Page) {
         page.width.saturating_sub(page.page_width) as i32,
     );
     match random.below(7) {
-        0 => *pick_side(random, page) = random.pick(&[0, LARGEST_SIDE + 1, 1 << 40, usize::MAX]),
+        0 => *pick_side(random, page) = questions::bad_side(random),
         1 => *pick_side(random, page) += 1,
         2 => resize(random, &mut page.gray),
         3 => resize(random, &mut page.shear),

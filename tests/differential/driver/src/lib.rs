@@ -10,6 +10,7 @@ pub mod layout;
 pub mod masks;
 pub mod params;
 pub mod pieces;
+pub mod questions;
 pub mod random;
 pub mod replay;
 mod replay_pages;

@@ -4,6 +4,7 @@
 use lanegravel_binding::settings::{self as ffi, FusionParams, RulingsParams};
 use pagetriage::pixel::rulings;
 
+use crate::questions;
 use crate::random::Random;
 use crate::tally::{Tally, hex_floats};
 use crate::values::any;
@@ -117,7 +118,7 @@ pub fn first_missed(p: &RulingsParams) -> u32 {
         p.box_aspect_tol,
         p.box_overshoot_fraction,
     ];
-    let questions = [
+    questions::first_missed(&[
         (
             7,
             floats(&mut p)
@@ -135,9 +136,7 @@ pub fn first_missed(p: &RulingsParams) -> u32 {
             p.table_min_horizontal >= 1 && p.table_min_vertical >= 1 && p.grid_min_boxes >= 2,
         ),
         (13, p.min_free_rules >= 1),
-    ];
-    let missed = questions.iter().find(|(_, yes)| !yes);
-    missed.map_or(0, |&(number, _)| number)
+    ])
 }
 
 /// Each float setting in turn at every limit and beside it, each count at and around its limit.

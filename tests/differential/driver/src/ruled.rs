@@ -3,11 +3,11 @@
 use lanegravel_binding::settings::RulingsParams;
 
 use crate::flood::flood;
-use crate::params::{self, VALID};
+use crate::params::VALID;
+use crate::questions::{self, LARGEST_SIDE};
 use crate::random::Random;
 
 const MOST_RULINGS: usize = 4096;
-const COORDINATES: u32 = 8192;
 
 /// What a call is given.
 #[derive(Debug)]
@@ -72,8 +72,8 @@ pub fn page(random: &mut Random) -> Page {
 /// One change that misses a question, or may.
 pub fn spoil(random: &mut Random, page: &mut Page) {
     let n = page.rects.len() / 4;
-    match random.below(13) {
-        0 => page.xheight = random.pick(&[0.0, -1.0, f64::NAN, f64::INFINITY, 4096.5]),
+    match random.below(12) {
+        0 => page.xheight = questions::bad_xheight(random),
         1 => page.rects.push(0),
         2 => page.directions.push(0),
         3 if n > 0 => page.directions[random.below(n as u64) as usize] = 2,
@@ -81,43 +81,23 @@ pub fn spoil(random: &mut Random, page: &mut Page) {
             page.rects.resize(4 * (MOST_RULINGS + 1), 0);
             page.directions.resize(MOST_RULINGS + 1, 0);
         }
-        5 if n > 0 => {
-            let k = 4 * random.below(n as u64) as usize;
-            page.rects[k] = page.rects[k + 2].saturating_add(1);
-        }
-        3..=6 if n > 0 => {
-            let k = random.below(4 * n as u64) as usize;
-            page.rects[k] = random.pick(&[COORDINATES - 1, COORDINATES, u32::MAX]);
-        }
-        3..=6 => page.directions.push(0),
-        7 => page.p.grid_cap = f64::NAN,
-        8 => page.p.join_tol_xh = -0.5,
-        9 => page.p.box_max_xh = page.p.box_min_xh.next_down(),
-        10 => page.p.box_tolerance_px = 4,
-        11 => page.p.table_min_vertical = 0,
-        _ => page.p.min_free_rules = 0,
+        3..=6 => questions::move_outside(random, &mut page.rects, LARGEST_SIDE, LARGEST_SIDE),
+        _ => questions::spoil_settings(random, &mut page.p),
     }
 }
 
 /// The number of the first missed question of document 01, said here in plain Rust; `room` says
 /// whether 14 is met.
 pub fn question(page: &Page, room: bool) -> u32 {
-    let n = page.rects.len() / 4;
-    let ordered = |r: &[u32]| r[0] <= r[2] && r[1] <= r[3];
-    let fields = page.directions.len() == n && page.directions.iter().all(|&d| d <= 1);
-    let settings = params::first_missed(&page.p);
-    let questions = [
-        (2, page.xheight > 0.0 && page.xheight <= 4_096.0),
-        (5, page.rects.len() % 4 == 0 && n <= MOST_RULINGS && fields),
-        (
-            6,
-            page.rects.chunks_exact(4).all(ordered) && page.rects.iter().all(|&c| c < COORDINATES),
-        ),
-        (settings, settings == 0),
+    let fields = page.directions.len() == page.rects.len() / 4;
+    questions::first_missed(&[
+        questions::xheight(page.xheight),
+        questions::rectangles(&page.rects, MOST_RULINGS),
+        (5, fields && page.directions.iter().all(|&d| d <= 1)),
+        questions::inside(&page.rects, LARGEST_SIDE, LARGEST_SIDE),
+        questions::settings(&page.p),
         (14, room),
-    ];
-    let missed = questions.iter().find(|(_, yes)| !yes);
-    missed.map_or(0, |&(number, _)| number)
+    ])
 }
 
 /// The closed sets of rulings, by smallest index.

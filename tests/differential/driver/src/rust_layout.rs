@@ -1,5 +1,6 @@
 //! The Rust's layout, by its public fields.
 
+use lanegravel_binding::boxes;
 use lanegravel_binding::layout::Page;
 use pagetriage::pixel::layout::{GlyphBox, Layout, Rect};
 
@@ -30,26 +31,20 @@ pub fn with_rules(width: usize, height: usize, xheight: f64, pieces: &[u32]) -> 
 }
 
 /// A levelled picture with its ink mask and glyph boxes, four numbers each.
-pub fn with_glyphs(
-    width: usize,
-    height: usize,
-    xheight: f64,
-    ink: &[u8],
-    glyphs: &[u32],
-) -> Layout {
+pub fn with_glyphs(page: &boxes::Page) -> Layout {
     let glyph = |r| GlyphBox {
         bbox: rect(r),
         area: 0,
         line: None,
     };
     Layout {
-        width,
-        height,
-        page_width: width,
-        page_height: height,
-        xheight,
-        ink: ink.to_vec(),
-        glyphs: glyphs.chunks_exact(4).map(glyph).collect(),
+        width: page.width,
+        height: page.height,
+        page_width: page.width,
+        page_height: page.height,
+        xheight: page.xheight,
+        ink: page.ink.clone(),
+        glyphs: page.glyphs.chunks_exact(4).map(glyph).collect(),
         ..blank()
     }
 }

@@ -5,13 +5,13 @@ use lanegravel_binding::segments::{self as ffi, Lent, Page};
 use pagetriage::pixel::rulings;
 
 use crate::flood;
-use crate::params::{self, VALID};
+use crate::params;
 use crate::pieces;
+use crate::questions;
 use crate::random::Random;
 use crate::rust_layout::with_rules;
 use crate::tally::{Tally, bits};
 
-const LARGEST_SIDE: usize = 8192;
 const MOST_PIECES: usize = 4096;
 
 /// Small pages, and now and then one with as many pieces as there may be.
@@ -140,12 +140,7 @@ fn lend(random: &mut Random, page: &Page) -> Lent {
 
 /// The number of the first missed question of document 01, said here in plain Rust.
 pub fn question(page: &Page, lent: &Lent) -> u32 {
-    let side = |n: usize| (1..=LARGEST_SIDE).contains(&n);
     let n = page.pieces.len() / 4;
-    let inside = |[x0, y0, x1, y1]: [u32; 4]| {
-        x0 <= x1 && y0 <= y1 && (x1 as usize) < page.width && (y1 as usize) < page.height
-    };
-    let settings = params::first_missed(&page.params);
     let room = page.raster.len() as u128 == page.width as u128 * page.height as u128
         && lent.rects.len() >= 4 * n
         && [&lent.directions, &lent.members, &lent.ends, &lent.parents]
@@ -154,46 +149,28 @@ pub fn question(page: &Page, lent: &Lent) -> u32 {
             .all(|list| list.len() >= n)
         && lent.contrasts.len() >= n
         && lent.keys.len() >= n;
-    let questions = [
-        (1, side(page.width) && side(page.height)),
-        (2, page.xheight > 0.0 && page.xheight <= 4_096.0),
-        (5, page.pieces.len() % 4 == 0 && n <= MOST_PIECES),
-        (6, pieces::rects(page).all(inside)),
-        (settings, settings == 0),
+    questions::first_missed(&[
+        questions::sides(page.width, page.height),
+        questions::xheight(page.xheight),
+        questions::rectangles(&page.pieces, MOST_PIECES),
+        questions::inside(&page.pieces, page.width, page.height),
+        questions::settings(&page.params),
         (14, room),
-    ];
-    let missed = questions.iter().find(|(_, yes)| !yes);
-    missed.map_or(0, |&(number, _)| number)
+    ])
 }
 
 /// One change that may miss a question.
 pub fn spoil(random: &mut Random, page: &mut Page) {
-    let huge = [0, LARGEST_SIDE + 1, 1 << 40, usize::MAX];
     match random.below(12) {
-        0 => page.width = random.pick(&huge),
-        1 => page.height = random.pick(&huge),
-        2 => page.xheight = random.pick(&[0.0, -0.0, -1.0, 4_096.5, f64::INFINITY, f64::NAN]),
+        0 => page.width = questions::bad_side(random),
+        1 => page.height = questions::bad_side(random),
+        2 => page.xheight = questions::bad_xheight(random),
         3 => page.pieces.push(0),
         4 if random.below(50) == 0 => page.pieces = vec![0; 4 * (MOST_PIECES + 1)],
-        4 | 5 => outside(random, page),
-        6 => page.params.table_prior = random.pick(&[1.1e6, -1.1e6, f64::NAN]),
-        7 => page.params.merge_gap_xh = random.pick(&[-1.0, -f64::MIN_POSITIVE]),
-        8 => page.params.box_max_xh = VALID.box_min_xh.next_down(),
-        9 => page.params.box_tolerance_px = 4,
-        10 if random.below(2) == 0 => page.params.grid_min_boxes = 1,
-        10 => page.params.min_free_rules = 0,
-        _ => {
+        4 | 5 => questions::move_outside(random, &mut page.pieces, page.width, page.height),
+        6 => {
             page.raster.pop();
         }
+        _ => questions::spoil_settings(random, &mut page.params),
     }
-}
-
-/// One coordinate moved to or past the picture's edge.
-fn outside(random: &mut Random, page: &mut Page) {
-    if page.pieces.is_empty() {
-        return;
-    }
-    let at = random.below(page.pieces.len() as u64) as usize;
-    let edge = if at % 2 == 0 { page.width } else { page.height } as u32;
-    page.pieces[at] = random.pick(&[edge, edge.wrapping_sub(1), 0, u32::MAX]);
 }
