@@ -1,5 +1,7 @@
 //! The answer text.
 
+use lanegravel_binding::grouping::members_of;
+
 /// The number of the first question that was missed.
 pub struct Refused(pub u32);
 
@@ -52,15 +54,9 @@ pub fn list(key: &str, entries: &[u32]) -> String {
 pub fn sets(key: &str, members: &[u32], ends: &[u32]) -> String {
     let mut lines = format!("{key}s {}\n", ends.len());
     for set in 0..ends.len() {
-        lines += &list(key, part(members, ends, set));
+        lines += &list(key, members_of(members, ends, ends.len(), set));
     }
     lines
-}
-
-/// The members of one set of a listing.
-pub fn part<'a>(members: &'a [u32], ends: &[u32], set: usize) -> &'a [u32] {
-    let start = if set == 0 { 0 } else { ends[set - 1] };
-    &members[start as usize..ends[set] as usize]
 }
 
 /// FNV-1a of 64 bits.

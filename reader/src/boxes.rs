@@ -2,8 +2,9 @@
 
 use lanegravel_binding::boxes::{self, Lent, Page};
 use lanegravel_binding::grids::{self, GridsLists};
+use lanegravel_binding::grouping::members_of;
 
-use crate::answer::{Answer, accepted, float, list, part, sets};
+use crate::answer::{Answer, accepted, float, list, sets};
 use crate::fields::Fields;
 
 /// The most records and entries that are lent: as many as any accepted page can use. Lending more
@@ -25,9 +26,9 @@ pub fn boxes(fields: Fields) -> Answer {
     let answer = boxes::boxes(&page, &mut lent);
     accepted(answer.number)?;
     let mut lines = format!("boxes {}\n", answer.count);
-    for (k, rect) in lent.rects.chunks(4).take(answer.count).enumerate() {
+    let (rects, _) = lent.rects.as_chunks();
+    for (k, [x0, y0, x1, y1]) in rects.iter().take(answer.count).enumerate() {
         let (mark, coverage) = (lent.marks[k], float(lent.coverages[k]));
-        let [x0, y0, x1, y1] = [rect[0], rect[1], rect[2], rect[3]];
         lines += &format!("box {x0} {y0} {x1} {y1} {mark} {coverage}\n");
     }
     Ok(lines)
@@ -43,7 +44,8 @@ pub fn grids(fields: Fields) -> Answer {
     let of_grids = |key, members: &[u32]| {
         let mut lines = format!("{key}s {}\n", numbers.len());
         for number in numbers {
-            lines += &list(key, part(members, ends, *number as usize));
+            let set = *number as usize;
+            lines += &list(key, members_of(members, ends, ends.len(), set));
         }
         lines
     };

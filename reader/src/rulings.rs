@@ -25,10 +25,9 @@ pub fn segments(fields: Fields) -> Answer {
     let answer = segments::segments(&page, &mut lent);
     accepted(answer.number)?;
     let mut lines = format!("rulings {}\n", answer.count);
-    for (k, rect) in lent.rects.chunks(4).take(answer.count).enumerate() {
-        let contrast = float(lent.contrasts[k]);
-        let direction = lent.directions[k];
-        let [x0, y0, x1, y1] = [rect[0], rect[1], rect[2], rect[3]];
+    let (rects, _) = lent.rects.as_chunks();
+    for (k, [x0, y0, x1, y1]) in rects.iter().take(answer.count).enumerate() {
+        let (direction, contrast) = (lent.directions[k], float(lent.contrasts[k]));
         lines += &format!("ruling {x0} {y0} {x1} {y1} {direction} {contrast}\n");
     }
     let ends = &lent.ends[..answer.count];
@@ -48,10 +47,10 @@ pub fn tables(fields: Fields) -> Answer {
     );
     accepted(answer.number)?;
     let mut lines = format!("tables {}\n", answer.tables);
-    for (k, rect) in lent.bounds.chunks(4).take(answer.tables).enumerate() {
+    let (bounds, _) = lent.bounds.as_chunks();
+    for (k, [x0, y0, x1, y1]) in bounds.iter().take(answer.tables).enumerate() {
         let (rows, columns, rulings) = (lent.rows[k], lent.columns[k], lent.rulings[k]);
         let share = float(lent.shares[k]);
-        let [x0, y0, x1, y1] = [rect[0], rect[1], rect[2], rect[3]];
         lines += &format!("table {x0} {y0} {x1} {y1} {rows} {columns} {rulings} {share}\n");
     }
     lines += &list("free", &lent.free[..answer.free]);
