@@ -13,14 +13,14 @@ use crate::tally::{Tally, bits};
 
 pub const MOST_GLYPHS: usize = 16_384;
 
-/// Small masks, and now and then one with as many glyph boxes as there may be.
+/// Small masks, and now and then one with as many glyph boxes or as long a side as there may be.
 pub fn boxes(random: &mut Random, count: u64) -> Tally {
     let mut tally = Tally::default();
     for case in 0..count {
-        let mut page = if case % 50_000 == 49_998 {
-            masks::crowded(random, MOST_GLYPHS)
-        } else {
-            masks::small(random)
+        let mut page = match case % 50_000 {
+            49_998 => masks::crowded(random, MOST_GLYPHS),
+            24_998 => masks::large(random),
+            _ => masks::small(random),
         };
         if case % 4 == 3 {
             for _ in 0..=random.below(3) {

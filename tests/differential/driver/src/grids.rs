@@ -2,11 +2,14 @@
 //! closed sets are held against a flood fill, and the reading order against a plain sort. Refused
 //! calls must leave every list as it was.
 
+use lanegravel_binding::boxes::Lent;
 use lanegravel_binding::grids::{self as ffi, GridsLists};
 use pagetriage::pixel::rulings::{self, CheckBox};
 
 use crate::aligned::{self, Page};
+use crate::boxes;
 use crate::flood;
+use crate::masks;
 use crate::params;
 use crate::random::Random;
 use crate::rust_layout::rect;
@@ -36,6 +39,23 @@ pub fn box_grids(random: &mut Random, count: u64) -> Tally {
             shorten(random.below(7), &mut lists, n);
         }
         compare(&mut tally, &page, lists);
+    }
+    tally
+}
+
+/// The boxes of forms, as the Rust finds them.
+pub fn forms(random: &mut Random, count: u64) -> Tally {
+    let mut tally = Tally::default();
+    for _ in 0..count {
+        let form = masks::form(random, 1_240, 1_754, 700);
+        let room = form.glyphs.len() / 4;
+        let (n, found) = boxes::accepted(&form, &Lent::with_room(room));
+        let page = Page {
+            xheight: form.xheight,
+            p: form.params,
+            rects: found.rects[..4 * n].to_vec(),
+        };
+        compare(&mut tally, &page, lent(0, n));
     }
     tally
 }

@@ -115,6 +115,11 @@ const COMPARISONS: &[Comparison] = &[
         count: 200_000,
         run: grids::box_grids,
     },
+    Comparison {
+        name: "box_grids on forms",
+        count: 300,
+        run: grids::forms,
+    },
 ];
 
 fn compare(seed: u64, count: Option<u64>, only: &str) -> ExitCode {

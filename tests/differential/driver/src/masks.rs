@@ -50,6 +50,23 @@ pub fn crowded(random: &mut Random, count: usize) -> Page {
     page
 }
 
+/// A picture with one of the largest sides, and frames and single pixels all over it.
+pub fn large(random: &mut Random) -> Page {
+    let (width, height) = random.pick(&[(8_192, 300), (300, 8_192)]);
+    let mut page = blank(width, height);
+    page.params.box_max_xh = 2.4;
+    for _ in 0..200 {
+        let square = frame(random, width, height);
+        let glyph = hollow(random, &mut page, square);
+        page.glyphs.extend(glyph);
+    }
+    for _ in 0..20 {
+        let glyph = pixel(random, &mut page);
+        page.glyphs.extend(glyph);
+    }
+    page
+}
+
 /// A form: rows of glyphs of letter size, every eighth of them an answer box of one size, some of
 /// them ticked with a stroke that leaves the box.
 pub fn form(random: &mut Random, width: usize, height: usize, count: usize) -> Page {

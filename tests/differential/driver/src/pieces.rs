@@ -84,6 +84,21 @@ pub fn crowded(random: &mut Random, count: usize) -> Page {
     page
 }
 
+/// A picture with one of the largest sides, and strokes and bands all over it.
+pub fn large(random: &mut Random) -> Page {
+    let (width, height) = random.pick(&[(8_192, 100), (100, 8_192)]);
+    let mut page = picture(random, width, height);
+    for _ in 0..60 {
+        let piece = match random.below(3) {
+            0 => band(random, width, height),
+            1 => pixel(random, width, height),
+            _ => stroke(random, width, height),
+        };
+        page.pieces.extend(piece);
+    }
+    page
+}
+
 /// A ruled form: tables of up to 12 by 8 lines, every rule broken into pieces that are shifted by a
 /// pixel now and then, on grey paper.
 pub fn form(random: &mut Random) -> Page {

@@ -14,14 +14,14 @@ use crate::tally::{Tally, bits};
 
 const MOST_PIECES: usize = 4096;
 
-/// Small pages, and now and then one with as many pieces as there may be.
+/// Small pages, and now and then one with as many pieces or as long a side as there may be.
 pub fn segments(random: &mut Random, count: u64) -> Tally {
     let mut tally = Tally::default();
     for case in 0..count {
-        let mut page = if case % 20_000 == 19_998 {
-            pieces::crowded(random, MOST_PIECES)
-        } else {
-            pieces::small(random)
+        let mut page = match case % 20_000 {
+            19_998 => pieces::crowded(random, MOST_PIECES),
+            9_998 => pieces::large(random),
+            _ => pieces::small(random),
         };
         if case % 4 == 3 {
             for _ in 0..=random.below(3) {
