@@ -13,14 +13,16 @@ pub fn frame_of(mask: &[u8], w: usize, r: Rect, fraction: f64) -> Framed
     requires { ⌜ Readable (now mask) w r ⌝ }
     ensures { λ f. ⌜ f ≡ framedOf (inkAt w (now (mask .entry))) fraction r ⌝ }
 {
-    let row_limit = fraction * r.width() as f64;
+    let width = r.width();
+    let height = r.height();
+    let row_limit = fraction * width as f64;
+    let column_limit = fraction * height as f64;
     let top = ink::lines::first_line(mask, w, r, true, row_limit);
-    if r.height() <= top {
+    if height <= top {
         return Framed::Nothing;
     }
-    let column_limit = fraction * r.height() as f64;
     let left = ink::lines::first_line(mask, w, r, false, column_limit);
-    if r.width() <= left {
+    if width <= left {
         return Framed::Nothing;
     }
     let bottom = ink::lines::last_line_end(mask, w, r, true, row_limit);

@@ -1,18 +1,24 @@
 // The inner half of a frame, and the mark that its ink gives.
 ghost use mathlib.Core.Path.{_≡_};
 ghost use mathlib.Core.Bool.{cond};
-ghost use Prim.Native.Nat.{_+_, _≤_, _<_, _^_};
+ghost use Prim.Native.Nat.{_+_, _/_, _≤_, _<_, _^_};
 ghost use lib.Ieee.{le};
 ghost use Rattle.ink.specs.Ink.{inkAt, Readable};
 ghost use Rattle.boxes.specs.Tests.{innerHalf, innerInk};
 use rects::Rect;
 
+fn quarter(n: u32) -> u32
+    ensures { λ r. ⌜ r ≡ n / 4 ⌝ }
+{
+    n / 4
+}
+
 fn inner_half(f: Rect) -> Rect
     requires { ⌜ (f .x0 ≤ f .x1) × (f .y0 ≤ f .y1) × (f .x1 + 1 < 2 ^ 32) × (f .y1 + 1 < 2 ^ 32) ⌝ }
     ensures { λ r. ⌜ r ≡ innerHalf f ⌝ }
 {
-    let x = f.width() / 4;
-    let y = f.height() / 4;
+    let x = quarter(f.width());
+    let y = quarter(f.height());
     Rect {
         x0: f.x0 + x,
         y0: f.y0 + y,

@@ -7,7 +7,16 @@ pub fn size_missed(width: u32, height: u32, least: f64, most: f64) -> bool
 {
     let w = width as f64;
     let h = height as f64;
-    (w < least) | (h < least) | (w > most) | (h > most)
+    if w < least {
+        return true;
+    }
+    if h < least {
+        return true;
+    }
+    if w > most {
+        return true;
+    }
+    h > most
 }
 
 pub fn aspect_missed(width: u32, height: u32, tolerance: f64) -> bool

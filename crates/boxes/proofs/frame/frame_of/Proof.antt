@@ -1,6 +1,5 @@
 -- `frame::frame_of` meets its contract: the first line over the limit from each end. Assumes nothing.
 use borrow.Author.Needs.{needs}
-use mathlib.Core.Path.{_≡_, refl, sym, ap, ap₂, _∙_}
 use Prim.Native.Nat.{ℕ, _+_, _-_, _≤_, _<_}
 use native.Mathlib.Omega.{arith}
 use Rattle.rects.specs.Rects.{widthOf, heightOf}
@@ -13,36 +12,30 @@ use Rattle.boxes.proofs.frame.frame_of.Tie as tie
 width-requires : tie.Need-width-requires
 width-requires c κs = search needs
 
-int-to-float-row-limit : tie.Need-int-to-float-row-limit
-int-to-float-row-limit c = search needs
-
-first-line-requires : tie.Need-first-line-requires
-first-line-requires c κs = search needs
-
 height-requires : tie.Need-height-requires
 height-requires c κs = search needs
 
-returns : tie.Need-returns
-returns c =
-    let s = c .before .before .before .before .before .before in let a = s .args in let ink = inkAt (a .w) (a .mask .now) in let fr = a .fraction in
-    no-row ink fr (a .r) (top-is ink fr (a .r) (c .before .before .before .before .width .ensures) (c .before .before .first-line .ensures)) (c .before .height .ensures) (c .if1 .taken)
-
-height-requires-2 : tie.Need-height-requires-2
-height-requires-2 c κs = search needs
+int-to-float-row-limit : tie.Need-int-to-float-row-limit
+int-to-float-row-limit c = search needs
 
 int-to-float-column-limit : tie.Need-int-to-float-column-limit
 int-to-float-column-limit c = search needs
 
+first-line-requires : tie.Need-first-line-requires
+first-line-requires c κs = search needs
+
+returns : tie.Need-returns
+returns c =
+    let s = c .before .before .before .before .before .before .before in let a = s .args in let ink = inkAt (a .w) (a .mask .now) in let fr = a .fraction in
+    no-row ink fr (a .r) (top-is ink fr (a .r) (c .before .before .before .before .before .width .ensures) (c .before .first-line .ensures)) (c .before .before .before .before .height .ensures) (c .if1 .taken)
+
 first-line-requires-2 : tie.Need-first-line-requires-2
 first-line-requires-2 c κs = search needs
 
-width-requires-2 : tie.Need-width-requires-2
-width-requires-2 c κs = search needs
-
 returns-2 : tie.Need-returns-2
 returns-2 c =
-    let s = c .before .before .before .before .before .before .before .before .before .before .before in let a = s .args in let ink = inkAt (a .w) (a .mask .now) in let fr = a .fraction in
-    no-column ink fr (a .r) (top-is ink fr (a .r) (c .before .before .before .before .before .before .before .before .before .width .ensures) (c .before .before .before .before .before .before .before .first-line .ensures)) (c .before .before .before .before .before .before .height .ensures) (c .before .before .before .before .before .if1 .left) (left-is ink fr (a .r) (c .before .before .before .before .height2 .ensures) (c .before .before .first-line2 .ensures)) (c .before .width2 .ensures) (c .if2 .taken)
+    let s = c .before .before .before .before .before .before .before .before .before in let a = s .args in let ink = inkAt (a .w) (a .mask .now) in let fr = a .fraction in
+    no-column ink fr (a .r) (top-is ink fr (a .r) (c .before .before .before .before .before .before .before .width .ensures) (c .before .before .before .first-line .ensures)) (c .before .before .before .before .before .before .height .ensures) (c .before .before .if1 .left) (left-is ink fr (a .r) (c .before .before .before .before .before .before .height .ensures) (c .before .first-line2 .ensures)) (c .before .before .before .before .before .before .before .width .ensures) (c .if2 .taken)
 
 last-line-end-requires : tie.Need-last-line-end-requires
 last-line-end-requires c κs = search needs
@@ -50,69 +43,67 @@ last-line-end-requires c κs = search needs
 last-line-end-requires-2 : tie.Need-last-line-end-requires-2
 last-line-end-requires-2 c κs = search needs
 
-add-t11 : tie.Need-add-t11
-add-t11 c = search needs
+add-t15 : tie.Need-add-t15
+add-t15 c = search needs
 
-add-t14 : tie.Need-add-t14
-add-t14 c = search needs
+add-t16 : tie.Need-add-t16
+add-t16 c = search needs
 
 -- the last column over the limit, and the last row, stand where they can be computed
-columns : (c : tie.After-last-line-end2) → (c .before .before .before .before .first-line2 .result < c .last-line-end2 .result) × (c .last-line-end2 .result ≤ widthOf (c .before .before .before .before .before .before .before .before .before .before .before .before .before .args .r))
+columns : (c : tie.After-last-line-end2) → (c .before .before .before .first-line2 .result < c .last-line-end2 .result) × (c .last-line-end2 .result ≤ widthOf (c .before .before .before .before .before .before .before .before .before .before .before .args .r))
 columns c =
-    let s = c .before .before .before .before .before .before .before .before .before .before .before .before .before in let a = s .args in let ink = inkAt (a .w) (a .mask .now) in let fr = a .fraction in
-    let left = left-is ink fr (a .r) (c .before .before .before .before .before .before .height2 .ensures) (c .before .before .before .before .first-line2 .ensures) in
-    let right = right-is ink fr (a .r) (c .before .before .before .before .before .before .height2 .ensures) (c .last-line-end2 .ensures) in
-    let l : leftOf ink fr (a .r) < widthOf (a .r) = omega (arith, left, c .before .before .before .width2 .ensures, c .before .before .if2 .left) in
+    let s = c .before .before .before .before .before .before .before .before .before .before .before in let a = s .args in let ink = inkAt (a .w) (a .mask .now) in let fr = a .fraction in
+    let left = left-is ink fr (a .r) (c .before .before .before .before .before .before .before .before .height .ensures) (c .before .before .before .first-line2 .ensures) in
+    let right = right-is ink fr (a .r) (c .before .before .before .before .before .before .before .before .height .ensures) (c .last-line-end2 .ensures) in
+    let l : leftOf ink fr (a .r) < widthOf (a .r) = omega (arith, left, c .before .before .before .before .before .before .before .before .before .width .ensures, c .before .before .if2 .left) in
     let o = columns-ordered ink fr (a .r) l in
     (omega (arith, left, right, o), omega (arith, right, o))
 
-rows : (c : tie.After-last-line-end2) → (c .before .before .before .before .before .before .before .before .before .first-line .result < c .before .last-line-end .result) × (c .before .last-line-end .result ≤ heightOf (c .before .before .before .before .before .before .before .before .before .before .before .before .before .args .r))
+rows : (c : tie.After-last-line-end2) → (c .before .before .before .before .before .first-line .result < c .before .last-line-end .result) × (c .before .last-line-end .result ≤ heightOf (c .before .before .before .before .before .before .before .before .before .before .before .args .r))
 rows c =
-    let s = c .before .before .before .before .before .before .before .before .before .before .before .before .before in let a = s .args in let ink = inkAt (a .w) (a .mask .now) in let fr = a .fraction in
-    let top = top-is ink fr (a .r) (c .before .before .before .before .before .before .before .before .before .before .before .width .ensures) (c .before .before .before .before .before .before .before .before .before .first-line .ensures) in
-    let bottom = bottom-is ink fr (a .r) (c .before .before .before .before .before .before .before .before .before .before .before .width .ensures) (c .before .last-line-end .ensures) in
-    let l : topOf ink fr (a .r) < heightOf (a .r) = omega (arith, top, c .before .before .before .before .before .before .before .before .height .ensures, c .before .before .before .before .before .before .before .if1 .left) in
+    let s = c .before .before .before .before .before .before .before .before .before .before .before in let a = s .args in let ink = inkAt (a .w) (a .mask .now) in let fr = a .fraction in
+    let top = top-is ink fr (a .r) (c .before .before .before .before .before .before .before .before .before .width .ensures) (c .before .before .before .before .before .first-line .ensures) in
+    let bottom = bottom-is ink fr (a .r) (c .before .before .before .before .before .before .before .before .before .width .ensures) (c .before .last-line-end .ensures) in
+    let l : topOf ink fr (a .r) < heightOf (a .r) = omega (arith, top, c .before .before .before .before .before .before .before .before .height .ensures, c .before .before .before .before .if1 .left) in
     let o = rows-ordered ink fr (a .r) l in
     (omega (arith, top, bottom, o), omega (arith, bottom, o))
 
-sub-t15 : tie.Need-sub-t15
-sub-t15 c = omega (arith, columns (c .before .before))
-
-add-t16 : tie.Need-add-t16
-add-t16 c = omega (arith, columns (c .before .before .before), c .before .before .before .before .before .before .before .before .before .before .before .before .before .before .before .before .pre .right, c .before .before .before .before .before .before .before .before .before .before .before .before .before .before .before .before .pre .narrow, c .before .before .before .before .before .before .before .before .before .before .before .before .before .before .before .before .pre .wide)
-
 sub-t17 : tie.Need-sub-t17
-sub-t17 c = omega (arith, rows (c .before .before .before))
+sub-t17 c = omega (arith, columns (c .before .before))
 
 add-t18 : tie.Need-add-t18
-add-t18 c = omega (arith, rows (c .before .before .before .before), c .before .before .before .before .before .before .before .before .before .before .before .before .before .before .before .before .before .pre .low, c .before .before .before .before .before .before .before .before .before .before .before .before .before .before .before .before .before .pre .high)
+add-t18 c = omega (arith, columns (c .before .before .before), c .before .before .before .before .before .before .before .before .before .before .before .before .before .before .pre .right, c .before .before .before .before .before .before .before .before .before .before .before .before .before .before .pre .narrow, c .before .before .before .before .before .before .before .before .before .before .before .before .before .before .pre .wide)
+
+sub-t19 : tie.Need-sub-t19
+sub-t19 c = omega (arith, rows (c .before .before .before))
+
+add-t20 : tie.Need-add-t20
+add-t20 c = omega (arith, rows (c .before .before .before .before), c .before .before .before .before .before .before .before .before .before .before .before .before .before .before .before .pre .low, c .before .before .before .before .before .before .before .before .before .before .before .before .before .before .before .pre .high)
 
 returns-3 : tie.Need-returns-3
 returns-3 c =
-    let s = c .before .before .before .before .before .before .before .before .before .before .before .before .before .before .before .before .before in let a = s .args in let ink = inkAt (a .w) (a .mask .now) in let fr = a .fraction in
-    framed ink fr (a .r) (top-is ink fr (a .r) (c .before .before .before .before .before .before .before .before .before .before .before .before .before .before .before .width .ensures) (c .before .before .before .before .before .before .before .before .before .before .before .before .before .first-line .ensures)) (c .before .before .before .before .before .before .before .before .before .before .before .before .height .ensures) (c .before .before .before .before .before .before .before .before .before .before .before .if1 .left) (left-is ink fr (a .r) (c .before .before .before .before .before .before .before .before .before .before .height2 .ensures) (c .before .before .before .before .before .before .before .before .first-line2 .ensures)) (c .before .before .before .before .before .before .before .width2 .ensures) (c .before .before .before .before .before .before .if2 .left)
-    (bottom-is ink fr (a .r) (c .before .before .before .before .before .before .before .before .before .before .before .before .before .before .before .width .ensures) (c .before .before .before .before .before .last-line-end .ensures)) (right-is ink fr (a .r) (c .before .before .before .before .before .before .before .before .before .before .height2 .ensures) (c .before .before .before .before .last-line-end2 .ensures))
+    let s = c .before .before .before .before .before .before .before .before .before .before .before .before .before .before .before in let a = s .args in let ink = inkAt (a .w) (a .mask .now) in let fr = a .fraction in
+    framed ink fr (a .r) (top-is ink fr (a .r) (c .before .before .before .before .before .before .before .before .before .before .before .before .before .width .ensures) (c .before .before .before .before .before .before .before .before .before .first-line .ensures)) (c .before .before .before .before .before .before .before .before .before .before .before .before .height .ensures) (c .before .before .before .before .before .before .before .before .if1 .left) (left-is ink fr (a .r) (c .before .before .before .before .before .before .before .before .before .before .before .before .height .ensures) (c .before .before .before .before .before .before .before .first-line2 .ensures)) (c .before .before .before .before .before .before .before .before .before .before .before .before .before .width .ensures) (c .before .before .before .before .before .before .if2 .left)
+    (bottom-is ink fr (a .r) (c .before .before .before .before .before .before .before .before .before .before .before .before .before .width .ensures) (c .before .before .before .before .before .last-line-end .ensures)) (right-is ink fr (a .r) (c .before .before .before .before .before .before .before .before .before .before .before .before .height .ensures) (c .before .before .before .before .last-line-end2 .ensures))
 
 pub frame-of-spec : {M : Type 1} → statement M
 frame-of-spec =
     tie.close
     (tie.spec
     width-requires
-    int-to-float-row-limit
-    first-line-requires
     height-requires
-    returns
-    height-requires-2
+    int-to-float-row-limit
     int-to-float-column-limit
+    first-line-requires
+    returns
     first-line-requires-2
-    width-requires-2
     returns-2
     last-line-end-requires
     last-line-end-requires-2
-    add-t11
-    add-t14
-    sub-t15
+    add-t15
     add-t16
     sub-t17
     add-t18
+    sub-t19
+    add-t20
     returns-3)

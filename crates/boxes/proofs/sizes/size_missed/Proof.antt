@@ -1,4 +1,4 @@
--- `sizes::size_missed` meets its contract. Assumes nothing.
+-- `sizes::size_missed` meets its contract: the first test that holds decides. Assumes nothing.
 use borrow.Author.Needs.{needs}
 use Rattle.boxes.specs.Tests.{sizeMissed}
 use Rattle.boxes.proofs.sizes.size_missed.Statement.{statement}
@@ -12,7 +12,20 @@ int-to-float-h c = search needs
 
 returns : tie.Need-returns
 unfolding sizeMissed
-returns c = search needs
+returns c = simp (c .if1 .taken)
+
+returns-2 : tie.Need-returns-2
+unfolding sizeMissed
+returns-2 c = simp (c .before .if1 .left, c .if2 .taken)
+
+returns-3 : tie.Need-returns-3
+unfolding sizeMissed
+returns-3 c = simp (c .before .before .if1 .left, c .before .if2 .left, c .if3 .taken)
+
+returns-4 : tie.Need-returns-4
+unfolding sizeMissed
+returns-4 c = simp (c .before .before .if1 .left, c .before .if2 .left, c .if3 .left)
 
 pub size-missed-spec : {M : Type 1} → statement M
-size-missed-spec = tie.close (tie.spec int-to-float-w int-to-float-h returns)
+size-missed-spec =
+    tie.close (tie.spec int-to-float-w int-to-float-h returns returns-2 returns-3 returns-4)
