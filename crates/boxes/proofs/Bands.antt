@@ -1,35 +1,22 @@
 -- A band along a side is a rectangle: its lines that have ink are the places along the side with ink in the clamped band.
 use mathlib.Core.Path.{_≡_, refl, sym, ap, ap₂, _∙_}
-use mathlib.Core.Bool.{Bool, true, false, cond, _||_, true≢false}
-use mathlib.Core.List.{List, [], _∷_}
-use Prim.Native.Nat.{ℕ, zero, suc, _+_, _-_, _≤_, _<_, min, max}
-use native.Mathlib.Nat.{le-step, lt-suc-self}
+use mathlib.Core.Bool.{Bool, true, false}
+use mathlib.Core.List.{List}
+use Prim.Native.Nat.{ℕ, _+_, _-_, _≤_, _<_, min, max}
 use native.Mathlib.Omega.{arith}
 use lib.Dec.{ltb}
 use lib.Ieee.{Float, binary64, div}
-use lib.ListN.{length}
-use borrow.Author.Tests.{lt-ltb}
-use Rattle.lists.specs.Lists.{below, keep, any}
+use Rattle.lists.specs.Lists.{below, any}
 use Rattle.lists.proofs.Keep.{any-true, true-any, in-below, below-in}
 use Rattle.math.specs.Select.{minimumNumber}
 use Rattle.math.specs.Sum.{whole}
 use Rattle.rects.specs.Rects.{widthOf, heightOf}
 use Rattle.rects.specs.declared.Rect.{Rect}
-use Rattle.ink.specs.Ink.{Ink, many, rowInk, columnInk, Readable}
-use Rattle.ink.specs.Places.{longestRun}
-use Rattle.ink.proofs.Counts.{readable-inside}
+use Rattle.ink.specs.Ink.{Ink, rowInk, columnInk, Readable}
+use Rattle.ink.proofs.Counts.{some-any, readable-inside}
 use Rattle.ink.proofs.Runs.{longest-same}
 use Rattle.boxes.specs.Tests.{topEdge, bottomEdge, leftEdge, rightEdge, runShare, edgeCoverage}
 use Rattle.boxes.specs.Bands.{topBand, bottomBand, leftBand, rightBand, lineShare}
-
--- some pass: the number of those that do is not 0
-some-any : (q : ℕ → Bool) (s : List ℕ) → ltb 0 (length (keep q s)) ≡ any q s
-some-any q [] = refl
-some-any q (x ∷ xs) = go (some-any q xs) (q x)
-  where
-    go : ltb 0 (length (keep q xs)) ≡ any q xs → (b : Bool) → ltb 0 (length (cond b (x ∷ keep q xs) (keep q xs))) ≡ b || any q xs
-    go e true = lt-ltb 0 (suc (length (keep q xs))) (omega arith)
-    go e false = e
 
 same-test : (a b : Bool) → (a ≡ true → b ≡ true) → (b ≡ true → a ≡ true) → a ≡ b
 same-test true b f g = sym (f refl)

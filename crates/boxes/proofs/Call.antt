@@ -14,7 +14,7 @@ use Rattle.ink.specs.Ink.{inkAt}
 use Rattle.boxes.specs.declared.limits.Limits.{Limits}
 use Rattle.boxes.specs.Limits.{limitsOf}
 use Rattle.boxes.specs.Call.{roomFits, boxQuestions, pageBoxes, Boxes}
-use Rattle.boxes.specs.Steps.{Listed}
+use Rattle.boxes.specs.Steps.{Made}
 use Rattle.boxes.proofs.Listing.{every-box}
 
 -- a refused call leaves what was there
@@ -23,13 +23,13 @@ kept x y f = sym (ap (λ t. cond t x y) f)
 
 module _ (w h dpi : ℕ) (xheight : Float) (mask glyphs : List ℕ) (p : RulingsParams) {rs ms : List ℕ} {cs : List Float} {q : ℕ}
     (asked : q ≡ firstMissed (boxQuestions w h dpi xheight (length mask) glyphs p (roomFits (count glyphs) (length rs) (length ms) (length cs)))) where
-  pub accepted : q ≡ 0 → {l : Limits} {rs′ ms′ : List ℕ} {cs′ : List Float} {n : ℕ} → l ≡ limitsOf dpi xheight p → Listed mask w glyphs l rs ms cs rs′ ms′ cs′ n
+  pub accepted : q ≡ 0 → {l : Limits} {rs′ ms′ : List ℕ} {cs′ : List Float} {n : ℕ} → l ≡ limitsOf dpi xheight p → Made mask w glyphs l rs ms cs rs′ ms′ cs′ n
       → Boxes w h dpi xheight mask glyphs p rs ms cs rs′ ms′ cs′ 0 n
   accepted z {l} {rs′} {ms′} {cs′} {n} e L =
-      let M = subst (λ (k : Limits). Listed mask w glyphs k rs ms cs rs′ ms′ cs′ n) e L in
+      let M = subst (λ (k : Limits). Made mask w glyphs k rs ms cs rs′ ms′ cs′ n) e L in
       record {
         number = sym z ∙ asked;
-        total = M .count;
+        count = M .count;
         rects = M .rects;
         marks = M .marks;
         coverages = M .coverages;
@@ -41,7 +41,7 @@ module _ (w h dpi : ℕ) (xheight : Float) (mask glyphs : List ℕ) (p : Rulings
       let f = ne-eqb q 0 n in
       record {
         number = asked;
-        total = kept (length (pageBoxes w dpi xheight mask glyphs p)) 0 f;
+        count = kept (length (pageBoxes w dpi xheight mask glyphs p)) 0 f;
         rects = kept _ rs f;
         marks = kept _ ms f;
         coverages = kept _ cs f;

@@ -21,7 +21,7 @@ use Rattle.boxes.specs.declared.found.CheckBox.{CheckBox}
 use Rattle.boxes.specs.declared.found.Found.{Found}
 use Rattle.boxes.specs.declared.found.Found.the-variants.{PassedOver, Box}
 use Rattle.boxes.specs.Boxes.{passedOver, boxOf, chosen, boxesBelow, boxesOf, EveryBox, numbersOf, rectanglesOf, marksOf, coveragesOf}
-use Rattle.boxes.specs.Steps.{foundOf, listed, RoomAt, Stored, Ready, Listed}
+use Rattle.boxes.specs.Steps.{foundOf, listed, RoomAt, Stored, Ready, Made}
 
 -- ---- one glyph box more
 
@@ -158,7 +158,7 @@ module _ (mask : List ℕ) (w : ℕ) (glyphs : List ℕ) (l : Limits) where
               (omega (arith, few, length-map ys (λ b. b .«edge_coverage»), R .coverages)) (S .coverages) (ap coveragesOf next ∙ map-append (λ b. b .«edge_coverage») xs ys);
         }
 
-  pub done : {rs₀ ms₀ rs ms : List ℕ} {cs₀ cs : List Float} {n k : ℕ} → Finding rs₀ ms₀ cs₀ rs ms cs n k → count glyphs ≤ k → Listed mask w glyphs l rs₀ ms₀ cs₀ rs ms cs n
+  pub done : {rs₀ ms₀ rs ms : List ℕ} {cs₀ cs : List Float} {n k : ℕ} → Finding rs₀ ms₀ cs₀ rs ms cs n k → count glyphs ≤ k → Made mask w glyphs l rs₀ ms₀ cs₀ rs ms cs n
   done {rs₀} {ms₀} {rs} {ms} {cs₀} {cs} {n} {k} F h =
       let end : k ≡ count glyphs = omega (arith, F .up-to) in
       record {

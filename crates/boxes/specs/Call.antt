@@ -40,12 +40,16 @@ boxQuestions w h dpi xheight bytes glyphs p room = inputQuestions w h dpi xheigh
 abbrev pub pageBoxes : ℕ → ℕ → Float → List ℕ → List ℕ → RulingsParams → List CheckBox
 pageBoxes w dpi xheight mask glyphs p = boxesOf (inkAt w mask) (limitsOf dpi xheight p) glyphs
 
+-- The places of its glyph boxes that are not passed over.
+abbrev pub pagePlaces : ℕ → ℕ → Float → List ℕ → List ℕ → RulingsParams → List ℕ
+pagePlaces w dpi xheight mask glyphs p = chosen (inkAt w mask) (limitsOf dpi xheight p) glyphs (count glyphs)
+
 -- What a call of `boxes` promises: its number, its count, the lists, written where the number is 0 and kept where it is not, and that every glyph
 -- box that is not passed over is a box, and no other.
 pub record Boxes (w h dpi : ℕ) (xheight : Float) (mask glyphs : List ℕ) (p : RulingsParams) (rs ms : List ℕ) (cs : List Float) (rs′ ms′ : List ℕ) (cs′ : List Float) (q n : ℕ) : Type 0 where
   pub number : q ≡ firstMissed (boxQuestions w h dpi xheight (length mask) glyphs p (roomFits (count glyphs) (length rs) (length ms) (length cs)))
-  pub total : n ≡ cond (eqb q 0) (length (pageBoxes w dpi xheight mask glyphs p)) 0
+  pub count : n ≡ cond (eqb q 0) (length (pageBoxes w dpi xheight mask glyphs p)) 0
   pub rects : rs′ ≡ cond (eqb q 0) (written (rectanglesOf (pageBoxes w dpi xheight mask glyphs p)) rs) rs
   pub marks : ms′ ≡ cond (eqb q 0) (written (marksOf (pageBoxes w dpi xheight mask glyphs p)) ms) ms
   pub coverages : cs′ ≡ cond (eqb q 0) (written (coveragesOf (pageBoxes w dpi xheight mask glyphs p)) cs) cs
-  pub every-box : EveryBox (inkAt w mask) (limitsOf dpi xheight p) glyphs (chosen (inkAt w mask) (limitsOf dpi xheight p) glyphs (count glyphs)) (pageBoxes w dpi xheight mask glyphs p)
+  pub every-box : EveryBox (inkAt w mask) (limitsOf dpi xheight p) glyphs (pagePlaces w dpi xheight mask glyphs p) (pageBoxes w dpi xheight mask glyphs p)

@@ -58,7 +58,7 @@ pub record Ready (mask : List ℕ) (w : ℕ) (glyphs : List ℕ) (l : Limits) (r
   pub coverages : count glyphs ≤ length cs
 
 -- What the core leaves.
-pub record Listed (mask : List ℕ) (w : ℕ) (glyphs : List ℕ) (l : Limits) (rs ms : List ℕ) (cs : List Float) (rs′ ms′ : List ℕ) (cs′ : List Float) (n : ℕ) : Type 0 where
+pub record Made (mask : List ℕ) (w : ℕ) (glyphs : List ℕ) (l : Limits) (rs ms : List ℕ) (cs : List Float) (rs′ ms′ : List ℕ) (cs′ : List Float) (n : ℕ) : Type 0 where
   pub count : n ≡ length (boxesOf (inkAt w mask) l glyphs)
   pub rects : rs′ ≡ written (rectanglesOf (boxesOf (inkAt w mask) l glyphs)) rs
   pub marks : ms′ ≡ written (marksOf (boxesOf (inkAt w mask) l glyphs)) ms

@@ -4,7 +4,7 @@ ghost use Prim.Native.Nat.{_+_, _*_, _≤_, _<_};
 ghost use lib.ListN.{length};
 ghost use lib.Seq.{sets};
 ghost use Rattle.boxes.specs.Boxes.{numbersOf};
-ghost use Rattle.boxes.specs.Steps.{RoomAt, Stored, Ready, Listed};
+ghost use Rattle.boxes.specs.Steps.{RoomAt, Stored, Ready, Made};
 use crate::found::Found;
 use crate::limits::Limits;
 use rects::Rect;
@@ -53,7 +53,7 @@ pub fn find(
     coverages: &mut [f64],
 ) -> usize
     requires { ⌜ Ready (now mask) w (now glyphs) l (now rects) (now marks) (now coverages) ⌝ }
-    ensures { λ n. ⌜ Listed (now (mask .entry)) w (now (glyphs .entry)) l (now (rects .entry)) (now (marks .entry)) (now (coverages .entry)) (now (rects .exit)) (now (marks .exit)) (now (coverages .exit)) n ⌝ }
+    ensures { λ n. ⌜ Made (now (mask .entry)) w (now (glyphs .entry)) l (now (rects .entry)) (now (marks .entry)) (now (coverages .entry)) (now (rects .exit)) (now (marks .exit)) (now (coverages .exit)) n ⌝ }
 {
     let count = glyphs.len() / 4;
     let mut n = 0;

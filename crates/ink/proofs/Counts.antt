@@ -1,17 +1,18 @@
 -- How much ink a line has: one place more, never more than there are places, and where the places stand in the mask.
 use mathlib.Core.Path.{_≡_, refl, sym, ap, _∙_}
-use mathlib.Core.Bool.{Bool, true, false, cond, not}
+use mathlib.Core.Bool.{Bool, true, false, cond, not, _||_}
 use mathlib.Core.List.{List, [], _∷_}
 use Prim.Native.Nat.{ℕ, zero, suc, _+_, _-_, _*_, _≤_, _<_}
 use native.Mathlib.Nat.{suc-mul, mul-le-mul-right, le-trans}
 use native.Mathlib.Numerals.{add-one}
 use native.Mathlib.Omega.{arith}
-use lib.Dec.{eqb}
+use lib.Dec.{eqb, ltb}
+use borrow.Author.Tests.{lt-ltb, le-ltb}
 use lib.ListN.{length, getD, take, drop, length-append, length-drop}
 use lib.Seq.{length-take-le, getD-take, getD-drop}
-use Rattle.lists.specs.Lists.{below, keep}
-use Rattle.lists.proofs.Keep.{keep-append, keep-below-same, length-below}
-use Rattle.lists.proofs.Sizes.{keep-size-le}
+use Rattle.lists.specs.Lists.{below, keep, any}
+use Rattle.lists.proofs.Keep.{keep-append, keep-below-same, length-below, true-any, in-below}
+use Rattle.lists.proofs.Sizes.{keep-size-le, keep-none}
 use Rattle.rects.specs.Rects.{widthOf, heightOf}
 use Rattle.rects.specs.declared.Rect.{Rect}
 use Rattle.ink.specs.Ink.{Ink, inkAt, many, rowInk, inkInRows, linesOf, Readable}
@@ -36,6 +37,21 @@ many-le q n = omega (arith, keep-size-le q (below n), length-below n)
 
 pub many-same : (q r : ℕ → Bool) (n : ℕ) → ((i : ℕ) → i < n → q i ≡ r i) → many q n ≡ many r n
 many-same q r n h = ap length (keep-below-same q r n h)
+
+-- some pass: the number of those that do is not 0
+pub some-any : (q : ℕ → Bool) (s : List ℕ) → ltb 0 (length (keep q s)) ≡ any q s
+some-any q [] = refl
+some-any q (x ∷ xs) = go (some-any q xs) (q x)
+  where
+    go : ltb 0 (length (keep q xs)) ≡ any q xs → (b : Bool) → ltb 0 (length (cond b (x ∷ keep q xs) (keep q xs))) ≡ b || any q xs
+    go e true = lt-ltb 0 (suc (length (keep q xs))) (omega arith)
+    go e false = e
+
+pub one-passes : (q : ℕ → Bool) (n i : ℕ) → i < n → q i ≡ true → true ≡ ltb 0 (many q n)
+one-passes q n i l t = sym (some-any q (below n) ∙ true-any q (below n) i (in-below n i l) t)
+
+pub none-passes : (q : ℕ → Bool) (n : ℕ) → ((i : ℕ) → i < n → q i ≡ false) → false ≡ ltb 0 (many q n)
+none-passes q n h = sym (ap (λ (s : List ℕ). ltb 0 (length s)) (keep-none q n h) ∙ le-ltb 0 0 (omega arith))
 
 -- ---- where the places of a rectangle stand
 

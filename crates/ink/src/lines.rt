@@ -30,6 +30,17 @@ fn line_count(mask: &[u8], w: usize, r: Rect, rows: bool, k: u32) -> u32
     crate::read::column_count(mask, w, r, k)
 }
 
+// Has line k any ink?
+fn line_has_ink(mask: &[u8], w: usize, r: Rect, rows: bool, k: u32) -> bool
+    requires { ⌜ Readable (now mask) w r × (k < linesOf r rows) ⌝ }
+    ensures { λ t. ⌜ t ≡ ltb 0 (lineInk (inkAt w (now (mask .entry))) r rows k) ⌝ }
+{
+    if rows {
+        return crate::read::row_has_ink(mask, w, r, k);
+    }
+    crate::read::column_has_ink(mask, w, r, k)
+}
+
 fn is_over(limit: f64, n: u32) -> bool
     ensures { λ t. ⌜ t ≡ over limit n ⌝ }
 {
@@ -83,7 +94,7 @@ pub fn longest(mask: &[u8], w: usize, r: Rect, rows: bool) -> u32
     let mut run = 0;
     let mut k = 0;
     while k < n {
-        run = longer_run(run, line_count(mask, w, r, rows, k));
+        run = longer_run(run, line_has_ink(mask, w, r, rows, k));
         best = greater(best, run);
         k += 1;
     }
@@ -91,9 +102,9 @@ pub fn longest(mask: &[u8], w: usize, r: Rect, rows: bool) -> u32
 }
 
 // One longer where the line has ink, and 0 at a gap.
-fn longer_run(run: u32, n: u32) -> u32
+fn longer_run(run: u32, inked: bool) -> u32
     requires { ⌜ run < 8192 ⌝ }
-    ensures { λ r. ⌜ r ≡ cond (ltb 0 n) (suc run) 0 ⌝ }
+    ensures { λ r. ⌜ r ≡ cond inked (suc run) 0 ⌝ }
 {
-    if 0 < n { run + 1 } else { 0 }
+    if inked { run + 1 } else { 0 }
 }

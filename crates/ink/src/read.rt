@@ -2,7 +2,7 @@
 ghost use mathlib.Core.Path.{_≡_};
 ghost use mathlib.Core.Bool.{not, cond};
 ghost use Prim.Native.Nat.{_+_, _*_, _≤_, _<_};
-ghost use lib.Dec.{eqb};
+ghost use lib.Dec.{eqb, ltb};
 ghost use lib.ListN.{length, getD};
 ghost use Rattle.rects.specs.Rects.{widthOf, heightOf};
 ghost use Rattle.ink.specs.Ink.{inkAt, many, rowInk, columnInk, inkIn, Readable};
@@ -61,6 +61,42 @@ pub fn column_count(mask: &[u8], w: usize, r: Rect, i: u32) -> u32
         j += 1;
     }
     n
+}
+
+// Is there ink in row j of a rectangle?
+pub fn row_has_ink(mask: &[u8], w: usize, r: Rect, j: u32) -> bool
+    requires { ⌜ Readable (now mask) w r × (j < heightOf r) ⌝ }
+    ensures { λ t. ⌜ t ≡ ltb 0 (rowInk (inkAt w (now (mask .entry))) r j) ⌝ }
+{
+    let x = r.x0 as usize;
+    let y = (r.y0 + j) as usize;
+    let columns = r.width() as usize;
+    let mut i = 0;
+    while i < columns {
+        if is_ink(mask, w, x + i, y) {
+            return true;
+        }
+        i += 1;
+    }
+    false
+}
+
+// Is there ink in column i of a rectangle?
+pub fn column_has_ink(mask: &[u8], w: usize, r: Rect, i: u32) -> bool
+    requires { ⌜ Readable (now mask) w r × (i < widthOf r) ⌝ }
+    ensures { λ t. ⌜ t ≡ ltb 0 (columnInk (inkAt w (now (mask .entry))) r i) ⌝ }
+{
+    let x = (r.x0 + i) as usize;
+    let y = r.y0 as usize;
+    let rows = r.height() as usize;
+    let mut j = 0;
+    while j < rows {
+        if is_ink(mask, w, x, y + j) {
+            return true;
+        }
+        j += 1;
+    }
+    false
 }
 
 // The ink in a rectangle.

@@ -1,6 +1,5 @@
 -- `lines::longer_run` meets its contract. Assumes nothing.
 use borrow.Author.Needs.{needs}
-use borrow.Author.Tests.{lt-ltb, le-ltb}
 use native.Mathlib.Numerals.{add-one}
 use Rattle.ink.proofs.lines.longer_run.Statement.{statement}
 use Rattle.ink.proofs.lines.longer_run.Tie as tie
@@ -9,10 +8,10 @@ add-result : tie.Need-add-result
 add-result c = search needs
 
 returns : tie.Need-returns
-returns c = rw (lt-ltb 0 (c .before .args .n) (c .if1 .taken)) (add-one (c .before .args .run))
+returns c = rw (c .if1 .taken) (add-one (c .before .args .run))
 
 returns-2 : tie.Need-returns-2
-returns-2 c = rw (le-ltb 0 (c .before .args .n) (c .if1 .left))
+returns-2 c = rw (c .if1 .left)
 
 pub longer-run-spec : {M : Type 1} → statement M
 longer-run-spec = tie.close (tie.spec add-result returns returns-2)

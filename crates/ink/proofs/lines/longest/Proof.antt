@@ -32,8 +32,8 @@ loop-holds c =
     let q = test (a .mask .now) (a .w) (a .r) (a .rows) in
     (omega arith, sym (run-none q), sym (longest-none q))
 
-line-count-requires : tie.Need-line-count-requires Inv-loop μ-loop
-line-count-requires c κs = (c .before .before .before .before .pre, omega (arith, c .before .before .lines-of .ensures))
+line-has-ink-requires : tie.Need-line-has-ink-requires Inv-loop μ-loop
+line-has-ink-requires c κs = (c .before .before .before .before .pre, omega (arith, c .before .before .lines-of .ensures))
 
 longer-run-requires : tie.Need-longer-run-requires Inv-loop μ-loop
 longer-run-requires c κs =
@@ -54,7 +54,7 @@ loop-again c =
     let a = c .before .before .before .before .before .before .before .args in
     let q = test (a .mask .now) (a .w) (a .r) (a .rows) in
     let k = c .before .before .before .before .loop .k in
-    let r = run-next q k (c .before .before .before .before .loop .inv .1) (c .before .longer-run .ensures ∙ ap (λ (n : ℕ). cond (ltb 0 n) (suc (c .before .before .before .before .loop .run)) 0) (c .before .before .line-count .ensures)) in
+    let r = run-next q k (c .before .before .before .before .loop .inv .1) (c .before .longer-run .ensures ∙ ap (λ (b : Bool). cond b (suc (c .before .before .before .before .loop .run)) 0) (c .before .before .line-has-ink .ensures)) in
     (omega arith, r, longest-next q k (c .before .before .before .before .loop .inv .2) r (c .greater .ensures))
 
 returns : tie.Need-returns Inv-loop μ-loop
@@ -72,7 +72,7 @@ longest-spec =
     μ-loop
     lines-of-requires
     loop-holds
-    line-count-requires
+    line-has-ink-requires
     longer-run-requires
     greater-requires
     add-k
