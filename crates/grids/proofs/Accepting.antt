@@ -3,6 +3,7 @@ use mathlib.Core.Path.{_≡_, refl, sym, ap, _∙_}
 use mathlib.Core.Bool.{Bool, true, false}
 use mathlib.Core.List.{List}
 use Prim.Native.Nat.{ℕ, _*_, _≤_, _<_, _^_}
+use native.Mathlib.Omega.{arith}
 use lib.Dec.{eqb}
 use lib.IntN.{pos, natAbs}
 use lib.Ieee.{Float, binary64, mul}
@@ -26,6 +27,12 @@ use Rattle.grids.proofs.Passing.{passed}
 -- passed questions bound the limit
 pub limit-up-to : (p : RulingsParams) (xheight : Float) → Settled p xheight → UpTo (2 * 1000000 * 4096) (roundedProduct (mul binary64 two (p .«grid_align_xh»)) xheight)
 limit-up-to p xheight S = limits p xheight (settings-passed p (S .settings) .0) (xheight-passed xheight (S .xheight-passed)) .«grid_align»
+
+pub limit-small : (p : RulingsParams) (xheight : Float) {limit : ℕ} → Settled p xheight → limit ≡ alignLimit p xheight → limit < 2 ^ 40
+limit-small p xheight S e =
+    let U = limit-up-to p xheight S in
+    let f : alignLimit p xheight ≡ U .size = ap natAbs (U .is) in
+    omega (arith, U .at-most)
 
 -- and it is not below 0
 limit-is : (p : RulingsParams) (xheight : Float) → Settled p xheight → roundedProduct (mul binary64 two (p .«grid_align_xh»)) xheight ≡ pos (alignLimit p xheight)

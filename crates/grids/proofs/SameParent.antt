@@ -1,17 +1,23 @@
--- A pair with one parent entry is in one set already: it is seen without a join.
-use mathlib.Core.Path.{_≡_, sym, ap, _∙_}
-use mathlib.Core.Bool.{false}
-use mathlib.Core.Logic.{_⊎_, inl, inr}
+-- A pair with one parent entry is in one set already: it is seen without a join, and so is one that does not touch.
+use mathlib.Core.Path.{_≡_, refl, sym, ap, _∙_, subst}
+use mathlib.Core.Bool.{Bool, true, false, not, _&&_, false≢true}
+use mathlib.Core.Logic.{_⊎_, inl, inr, ⊎-elim}
 use mathlib.Core.List.{List}
-use Prim.Native.Nat.{ℕ, _+_, _<_}
-use native.Mathlib.Decide.{ℕ-discrete}
+use Prim.Native.Nat.{ℕ, _+_, _≤_, _<_}
+use native.Mathlib.Nat.{le-refl}
+use native.Mathlib.Numerals.{add-one}
+use native.Mathlib.Decide.{ℕ-discrete, le-ind}
 use native.Mathlib.Omega.{arith}
+use lib.Dec.{eqb}
 use lib.ListN.{getD}
-use Rattle.sets.specs.Closed.{Chain}
+use borrow.Author.Tests.{eqb-true}
+use Rattle.sets.specs.Closed.{Below, Chain}
 use Rattle.sets.specs.Joins.{Joins, Seen}
 use Rattle.sets.specs.Parents.{Parents, root, Joined}
 use Rattle.sets.proofs.Chains.{chain-step}
+use Rattle.sets.proofs.Grown.{Holds}
 use Rattle.sets.proofs.Joins.{joins-exchange, joins-kept}
+use Rattle.sets.proofs.Pairs.{pair-next}
 use Rattle.sets.proofs.Roots.{root-parent}
 
 -- equal parent entries have equal roots
@@ -40,3 +46,23 @@ module _ {n : ℕ} {D : ℕ → Type 0} (R : ℕ → ℕ → Type 0) {p : List �
             | yes f ↦ rw (h .0, f) known
             | no f ↦ chain-step da db (inl (record { touch = s .touch; order = s .order; before = inr (h .0, omega arith) }))
           ]
+
+-- a pair that is passed over leaves the parents
+stays : {n : ℕ} {p : List ℕ} {i j : ℕ} → Parents n p → Joined n p i j false p
+stays P = record { parents = P; roots = λ k l. refl; kept = refl }
+
+-- pairs that have one parent or do not touch are seen without a join
+module _ {n : ℕ} (touch : ℕ → ℕ → Bool) {p : List ℕ} {i j : ℕ} (li : i < n) (comm : (k : ℕ) → k < n → touch i k ≡ touch k i) (l : i < j) where
+  pub pairs-passed : (r : ℕ) → j ≤ r → r ≤ n → ((k : ℕ) → j ≤ k → k < r → not (eqb (getD p k 0) (getD p i 0)) && touch i k ≡ false)
+      → Joins n (Below n) (Seen (Holds touch) i j) p → Joins n (Below n) (Seen (Holds touch) i r) p
+  pairs-passed r h u passed J =
+      le-ind (λ (m : ℕ). m ≤ r → Joins n (Below n) (Seen (Holds touch) i m) p) (λ w. J)
+      (λ m a ih w. subst (λ (x : ℕ). Joins n (Below n) (Seen (Holds touch) i x) p) (add-one m) (step m a w (ih (omega arith)) (eqb (getD p m 0) (getD p i 0)) refl)) r h (le-refl r)
+    where
+      step : (m : ℕ) → j ≤ m → m < r → Joins n (Below n) (Seen (Holds touch) i m) p → (b : Bool) → eqb (getD p m 0) (getD p i 0) ≡ b
+          → Joins n (Below n) (Seen (Holds touch) i (m + 1)) p
+      step m a w K true e = pair-known (Holds touch) K li (omega arith) (sym (eqb-true (getD p m 0) (getD p i 0) e)) (stays (K .parents))
+      step m a w K false e =
+          let none : touch i m ≡ false = sym (ap (λ (b : Bool). not b && touch i m) e) ∙ passed m a w in
+          pair-next (Holds touch) false K li (omega arith) (omega arith) (stays (K .parents)) (λ f. absurd (false≢true f))
+          (⊎-elim (λ f. sym none ∙ f) (λ f. sym none ∙ comm m (omega arith) ∙ f))

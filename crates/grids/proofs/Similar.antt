@@ -1,15 +1,15 @@
 -- Similar widths, and touching, are the same either way round: the difference of two whole numbers is exact, and so is the larger.
 use mathlib.Core.Path.{_≡_, refl, sym, ap, ap₂, _∙_}
 use mathlib.Core.Bool.{Bool, true, false, cond, not, _&&_, _||_, and-true, and-false}
-use Prim.Native.Nat.{ℕ, _+_, _-_, _*_, _^_, _≤_, _<_, min, max}
+use Prim.Native.Nat.{ℕ, _+_, _-_, _*_, _%_, _^_, _≤_, _<_, min, max}
 use native.Mathlib.Nat.{mul-one, mul-assoc, mul-comm, mul-pos, mul-lt-mul-of-pos-right, mul-le-mul-right, max-comm, min-comm}
 use native.Mathlib.Decide.{decLt}
 use native.Mathlib.Omega.{arith}
-use lib.Dec.{ltb, lit<}
+use lib.Dec.{leb, ltb, lit<}
 use lib.Ieee.{Float, nan, inf, fin, binary64, up, down, round, sum, sub, mul, neg, lt, le, ofInt, isNan}
 use lib.Ieee.Exact.{HasValue}
 use lib.Ieee.Fits.{down-pos}
-use borrow.Author.Tests.{ltb-true, ltb-false, lt-ltb, le-ltb, not-true, not-false}
+use borrow.Author.Tests.{ltb-true, ltb-false, lt-ltb, le-ltb, leb-true, leb-false, le-leb, lt-leb, not-true, not-false}
 use Rattle.math.specs.Constants.{threeTenths}
 use Rattle.math.specs.Select.{absolute, negative, maximumNumber}
 use Rattle.math.specs.Sum.{whole}
@@ -161,3 +161,11 @@ module _ (limit : ℕ) (a b : Rect) {joined t : Bool} (j : joined ≡ false) (e 
   pub then-similar : {s : Bool} {x y : ℕ} → not t ≡ false → x ≡ widthOf a → y ≡ widthOf b → s ≡ similar x y → s ≡ not joined && touching limit a b
   unfolding touching
   then-similar {s} {x} {y} h p q k = k ∙ ap₂ similar p q ∙ sym (rw (j, ← e, not-false t h) (and-true (similar (widthOf a) (widthOf b))))
+
+-- one subtraction that wraps tells whether two numbers are at most the limit apart
+pub near-is : (a b limit r : ℕ) → a < 2 ^ 32 → b < 2 ^ 32 → limit < 2 ^ 40 → r < 2 ^ 64 → (r + a) % 2 ^ 64 ≡ b + limit → leb r (2 * limit) ≡ leb (distance a b) limit
+near-is a b limit r A B L R e = go (leb (distance a b) limit) refl
+  where
+    go : (t : Bool) → leb (distance a b) limit ≡ t → leb r (2 * limit) ≡ t
+    go true f = let h = leb-true (distance a b) limit f in le-leb r (2 * limit) (omega arith)
+    go false f = let h = leb-false (distance a b) limit f in lt-leb r (2 * limit) (omega arith)

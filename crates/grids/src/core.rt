@@ -1,5 +1,6 @@
 // Closed sets of boxes, their reading order and the grids among them: the core, which asks for what the questions show.
 ghost use mathlib.Core.Path.{_≡_};
+ghost use Prim.Native.Nat.{_<_, _^_};
 ghost use Rattle.rects.specs.Rects.{count};
 ghost use Rattle.grids.specs.Boxes.{alignLimit};
 ghost use Rattle.grids.specs.Steps.{Given, Settled, Roomy, Filled};
@@ -35,7 +36,7 @@ pub fn find(
     work: &mut [u32],
     keys: &mut [u64],
 ) -> Counts
-    requires { ⌜ Given (now rects) × Roomy (count (now rects)) (record { members = now members; ends = now ends; reading = now reading; numbers = now numbers; parents = now parents; work = now work; keys = now keys }) ⌝ }
+    requires { ⌜ (limit < 2 ^ 40) × Given (now rects) × Roomy (count (now rects)) (record { members = now members; ends = now ends; reading = now reading; numbers = now numbers; parents = now parents; work = now work; keys = now keys }) ⌝ }
     ensures { λ r. ⌜ Filled (now (rects .entry)) limit least
         (record { members = now (members .entry); ends = now (ends .entry); reading = now (reading .entry); numbers = now (numbers .entry); parents = now (parents .entry); work = now (work .entry); keys = now (keys .entry) })
         (record { members = now (members .exit); ends = now (ends .exit); reading = now (reading .exit); numbers = now (numbers .exit); parents = now (parents .exit); work = now (work .exit); keys = now (keys .exit) })

@@ -2,7 +2,7 @@
 use mathlib.Core.Path.{_≡_, sym, _∙_}
 use Rattle.grids.specs.Call.{Lent, missedBy}
 use Rattle.grids.proofs.Passing.{Passed, passed}
-use Rattle.grids.proofs.Accepting.{asked, refused, accepted}
+use Rattle.grids.proofs.Accepting.{limit-small, asked, refused, accepted}
 use borrow.Author.Needs.{needs}
 use Rattle.grids.proofs.box_grids.Statement.{statement}
 use Rattle.grids.proofs.box_grids.Tie as tie
@@ -32,7 +32,8 @@ limit-requires : tie.Need-limit-requires
 limit-requires c κs = known (c) .settled
 
 find-requires : tie.Need-find-requires
-find-requires c κs = (known (c .before .before .before .before .before .before .before .before) .given, known (c .before .before .before .before .before .before .before .before) .roomy)
+find-requires c κs =
+    let K = known (c .before .before .before .before .before .before .before .before) in (limit-small (c .before .before .before .before .before .before .before .before .before .before .before .before .before .before .before .before .before .before .before .args .p) (c .before .before .before .before .before .before .before .before .before .before .before .before .before .before .before .before .before .before .before .args .xheight) (K .settled) (c .before .before .before .before .before .before .before .limit .ensures), K .given, K .roomy)
 
 same-length : tie.Need-same-length
 same-length c = c .before .before .before .before .before .before .before .before .before .before .before .before .before .before .find .kept .1 .1 .1 .0

@@ -33,10 +33,10 @@ room : {n : ℕ} {p : List ℕ} → n ≤ length p → n ≤ 16384 → Room n p
 room h k = record { room = h; small = omega arith }
 
 join-all-requires : tie.Need-join-all-requires
-join-all-requires c κs = (c .before .before .before .before .before .before .pre .0, room (c .before .before .before .before .before .before .pre .1) (c .before .before .before .before .before .before .pre .0 .few))
+join-all-requires c κs = (c .before .before .before .before .before .before .pre .0, c .before .before .before .before .before .before .pre .1, room (c .before .before .before .before .before .before .pre .2) (c .before .before .before .before .before .before .pre .1 .few))
 
 list-requires : tie.Need-list-requires
-list-requires c κs = (c .before .before .before .before .before .before .join-all .ensures .parents, c .before .before .before .before .before .before .before .before .before .before .before .before .before .pre .2, c .before .before .before .before .before .before .before .before .before .before .before .before .before .pre .3, c .before .before .before .before .before .before .before .before .before .before .before .before .before .pre .4)
+list-requires c κs = (c .before .before .before .before .before .before .join-all .ensures .parents, c .before .before .before .before .before .before .before .before .before .before .before .before .before .pre .3, c .before .before .before .before .before .before .before .before .before .before .before .before .before .pre .4, c .before .before .before .before .before .before .before .before .before .before .before .before .before .pre .5)
 
 same-length : tie.Need-same-length
 same-length c = c .before .before .before .before .before .before .before .before .list .kept .0 ∙ c .before .before .before .before .before .before .before .before .before .before .before .before .before .before .before .join-all .kept .1 .1 .0

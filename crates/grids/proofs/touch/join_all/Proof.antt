@@ -32,16 +32,16 @@ abbrev μ-loop : tie.MeasureT-loop
 μ-loop rects limit parents₀ n i₀ parents i = n - i
 
 begin-requires : tie.Need-begin-requires Inv-loop μ-loop
-begin-requires c κs = c .before .before .before .pre .1
+begin-requires c κs = c .before .before .before .pre .2
 
 loop-holds : tie.Need-loop-holds Inv-loop μ-loop
-loop-holds c = begun (Touch (c .before .before .before .before .before .before .args .rects .now) (c .before .before .before .before .before .before .args .limit)) (c .before .before .before .before .before .before .pre .1) (c .before .before .begin .ensures)
+loop-holds c = begun (Touch (c .before .before .before .before .before .before .args .rects .now) (c .before .before .before .before .before .before .args .limit)) (c .before .before .before .before .before .before .pre .2) (c .before .before .begin .ensures)
 
 join-row-requires : tie.Need-join-row-requires Inv-loop μ-loop
-join-row-requires c κs = (c .before .before .before .before .before .before .before .before .before .pre .0, c .before .loop-test .taken, c .before .before .loop .inv .seen)
+join-row-requires c κs = (c .before .before .before .before .before .before .before .before .before .pre .0, c .before .before .before .before .before .before .before .before .before .pre .1, c .before .loop-test .taken, c .before .before .loop .inv .seen)
 
 add-i : tie.Need-add-i Inv-loop μ-loop
-add-i c = omega (arith, c .before .before .before .before .loop-test .taken, c .before .before .before .before .before .before .before .before .before .before .before .before .pre .0 .few)
+add-i c = omega (arith, c .before .before .before .before .loop-test .taken, c .before .before .before .before .before .before .before .before .before .before .before .before .pre .1 .few)
 
 loop-less : tie.Need-loop-less Inv-loop μ-loop
 loop-less c = omega (arith, c .before .before .before .before .loop-test .taken)
