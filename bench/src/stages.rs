@@ -12,7 +12,7 @@ use crate::rust_layout::with_rules;
 use crate::tables::{lent, segments};
 use crate::timing::{Times, compare};
 
-pub const MEASUREMENTS: [(&str, fn() -> Times); 10] = [
+pub const MEASUREMENTS: [(&str, fn() -> Times); 11] = [
     ("rulings, a form of 240 pieces", form_pieces),
     ("rulings, 4,096 pieces, none touching", || {
         join(4_096, 4_096, strokes())
@@ -42,6 +42,7 @@ pub const MEASUREMENTS: [(&str, fn() -> Times); 10] = [
         "tables, 4,096 rulings by turns, all crossing, no end joined",
         || table(&grid(16)),
     ),
+    ("tables, 4,096 rulings at random", || table(&random())),
     ("tables, 4,096 horizontals", || {
         table(&by_turns(
             (0..4_096).map(|i| [0, 2 * i, 30, 2 * i]).collect(),
@@ -75,6 +76,24 @@ fn by_turns(rects: Vec<[u32; 4]>, directions: usize) -> Vec<Given> {
             direction: (i % directions) as u32,
         })
         .collect()
+}
+
+/// Rulings of up to 1,024 anywhere, across and down by turns.
+fn random() -> Vec<Given> {
+    let mut random = Random::new(2);
+    let mut below = |n| random.below(n) as u32;
+    by_turns(
+        (0..4_096)
+            .map(|i| {
+                let (x, y, length) = (below(7_000), below(7_000), below(1_024));
+                match i % 2 {
+                    0 => [x, y, x + length, y + 1],
+                    _ => [x, y, x + 1, y + length],
+                }
+            })
+            .collect(),
+        2,
+    )
 }
 
 /// 2,048 across and 2,048 down, by turns; each meets all of the other direction, and reaches past the outer ones by `past`.
