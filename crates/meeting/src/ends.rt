@@ -40,8 +40,7 @@ fn joined_from_front(
 {
     let mut k = 0;
     while k < set.len() {
-        let b = segment::ruling_at(rects, directions, chosen, set[k] as usize);
-        if segment::joins_end(end, a, b, join) {
+        if segment::joined_by(rects, directions, chosen, end, a, set[k] as usize, join) {
             return true;
         }
         k += 1;
@@ -65,8 +64,7 @@ fn joined_from_back(
     let mut k = set.len();
     while k > 0 {
         k -= 1;
-        let b = segment::ruling_at(rects, directions, chosen, set[k] as usize);
-        if segment::joins_end(end, a, b, join) {
+        if segment::joined_by(rects, directions, chosen, end, a, set[k] as usize, join) {
             return true;
         }
     }

@@ -1,7 +1,8 @@
 // A ruling as other rulings meet it.
 ghost use mathlib.Core.Path.{_≡_};
-ghost use mathlib.Core.Bool.{true, false};
+ghost use mathlib.Core.Bool.{true, false, cond, not};
 ghost use Prim.Native.Nat.{_+_, _<_, _^_};
+ghost use lib.Dec.{eqb};
 ghost use lib.ListN.{length};
 ghost use Rattle.meeting.specs.Segments.{segmentOf, rulingAt, opposite, spanHolds, touches, distance, joinsEnd};
 ghost use Rattle.meeting.specs.Steps.{Given};
@@ -87,7 +88,7 @@ fn distance(a: u64, b: u64) -> u64
 }
 
 // Does ruling b join the end of ruling a?
-pub fn joins_end(end: u32, a: Segment, b: Segment, join: u64) -> bool
+fn joins_end(end: u32, a: Segment, b: Segment, join: u64) -> bool
     requires { ⌜ join < 2 ^ 32 ⌝ }
     ensures { λ r. ⌜ r ≡ joinsEnd join end a b ⌝ }
 {
@@ -96,4 +97,34 @@ pub fn joins_end(end: u32, a: Segment, b: Segment, join: u64) -> bool
     }
     let near = distance(2 * end as u64, b.centre2 as u64) <= 2 * join + 2;
     near & span_holds(b, a.centre2, join)
+}
+
+fn same_way(horizontal: bool, direction: u32) -> bool
+    ensures { λ r. ⌜ r ≡ cond horizontal (eqb direction 0) (not (eqb direction 0)) ⌝ }
+{
+    if horizontal {
+        return direction == 0;
+    }
+    direction != 0
+}
+
+// Does the ruling at index j join the end of ruling a? Its direction is asked before its rectangle is read.
+pub fn joined_by(
+    rects: &[u32],
+    directions: &[u32],
+    chosen: &[u32],
+    end: u32,
+    a: Segment,
+    j: usize,
+    join: u64,
+) -> bool
+    requires { ⌜ (join < 2 ^ 32) × Given (now rects) (now directions) (now chosen) × (j < length (now chosen)) ⌝ }
+    ensures { λ r. ⌜ r ≡ joinsEnd join end a (rulingAt (now (rects .entry)) (now (directions .entry)) (now (chosen .entry)) j) ⌝ }
+{
+    let place = chosen[j] as usize;
+    if same_way(a.horizontal, directions[place]) {
+        return false;
+    }
+    let b = ruling_at(rects, directions, chosen, j);
+    joins_end(end, a, b, join)
 }

@@ -1,5 +1,5 @@
 -- `ends::joined_from_back` meets its contract: none of the members so far joins the end.
-use mathlib.Core.Path.{_≡_, sym, ap, _∙_}
+use mathlib.Core.Path.{_≡_, sym, _∙_}
 use mathlib.Core.Bool.{Bool, false}
 use mathlib.Core.List.{List}
 use Prim.Native.Nat.{ℕ, _+_, _-_, _<_}
@@ -16,10 +16,6 @@ use Rattle.meeting.proofs.ends.joined_from_back.Tie as tie
 module _ (join : ℕ) (s : ℕ → Segment) (a : Segment) (end : ℕ) where
   abbrev by : ℕ → Bool
   by j = joinsEnd join end a (s j)
-
-  -- what was found of a member
-  read : {r : Bool} {b : Segment} (set : List ℕ) (k : ℕ) → b ≡ s (getD set k 0) → r ≡ joinsEnd join end a b → by (getD set k 0) ≡ r
-  read set k e f = sym (f ∙ ap (joinsEnd join end a) e)
 
 -- the place before k
 place : {q : ℕ → Bool} {set : List ℕ} {k : ℕ} → Behind q set k → 0 < k → k - 1 < length set
@@ -40,29 +36,26 @@ loop-holds c = behind-begin (by (c .before .before .before .before .args .join) 
 sub-k : tie.Need-sub-k Inv-loop μ-loop
 sub-k c = omega (arith, c .loop-test .taken)
 
-mul-ruling-at : tie.Need-mul-ruling-at Inv-loop μ-loop
-mul-ruling-at c = scaled-fits (c .before .loop .k - 1) (length (c .before .before .before .before .before .before .args .set .now)) 4 (place (c .before .loop .inv) (c .loop-test .taken)) (c .before .before .before .before .before .before .good .1 .1 .1 .0 .1)
+mul-joined-by : tie.Need-mul-joined-by Inv-loop μ-loop
+mul-joined-by c = scaled-fits (c .before .loop .k - 1) (length (c .before .before .before .before .before .before .args .set .now)) 4 (place (c .before .loop .inv) (c .loop-test .taken)) (c .before .before .before .before .before .before .good .1 .1 .1 .0 .1)
 
-shared-slice-read-ruling-at : tie.Need-shared-slice-read-ruling-at Inv-loop μ-loop
-shared-slice-read-ruling-at c = place (c .before .before .loop .inv) (c .before .loop-test .taken)
+shared-slice-read-joined-by : tie.Need-shared-slice-read-joined-by Inv-loop μ-loop
+shared-slice-read-joined-by c = place (c .before .before .loop .inv) (c .before .loop-test .taken)
 
-cast-ruling-at : tie.Need-cast-ruling-at Inv-loop μ-loop
-cast-ruling-at c = omega (arith, c .shared-slice-known5 .given (c .before .before .loop .k - 1))
+cast-joined-by : tie.Need-cast-joined-by Inv-loop μ-loop
+cast-joined-by c = omega (arith, c .shared-slice-known5 .given (c .before .before .loop .k - 1))
 
-ruling-at-requires : tie.Need-ruling-at-requires Inv-loop μ-loop
-ruling-at-requires c κs = (c .before .before .before .before .before .before .before .pre .1, member-within (c .before .before .before .before .before .before .before .args .set .now) (c .before .before .before .before .before .before .before .pre .2) (c .before .before .loop .k - 1) (place (c .before .before .loop .inv) (c .before .loop-test .taken)))
-
-joins-end-requires : tie.Need-joins-end-requires Inv-loop μ-loop
-joins-end-requires c κs = c .before .before .before .before .before .before .before .before .pre .0
+joined-by-requires : tie.Need-joined-by-requires Inv-loop μ-loop
+joined-by-requires c κs = (c .before .before .before .before .before .before .before .pre .0, c .before .before .before .before .before .before .before .pre .1, member-within (c .before .before .before .before .before .before .before .args .set .now) (c .before .before .before .before .before .before .before .pre .2) (c .before .before .loop .k - 1) (place (c .before .before .loop .inv) (c .before .loop-test .taken)))
 
 returns : tie.Need-returns Inv-loop μ-loop
-returns c = sym (any-found (by (c .before .before .before .before .before .before .before .before .before .before .args .join) (rulingAt (c .before .before .before .before .before .before .before .before .before .before .args .rects .now) (c .before .before .before .before .before .before .before .before .before .before .args .directions .now) (c .before .before .before .before .before .before .before .before .before .before .args .chosen .now)) (c .before .before .before .before .before .before .before .before .before .before .args .a) (c .before .before .before .before .before .before .before .before .before .before .args .end)) (c .before .before .before .before .before .before .before .before .before .before .args .set .now) (c .before .before .before .before .before .loop .k - 1) (place (c .before .before .before .before .before .loop .inv) (c .before .before .before .before .loop-test .taken)) (read (c .before .before .before .before .before .before .before .before .before .before .args .join) (rulingAt (c .before .before .before .before .before .before .before .before .before .before .args .rects .now) (c .before .before .before .before .before .before .before .before .before .before .args .directions .now) (c .before .before .before .before .before .before .before .before .before .before .args .chosen .now)) (c .before .before .before .before .before .before .before .before .before .before .args .a) (c .before .before .before .before .before .before .before .before .before .before .args .end) (c .before .before .before .before .before .before .before .before .before .before .args .set .now) (c .before .before .before .before .before .loop .k - 1) (c .before .before .ruling-at .ensures) (c .before .joins-end .ensures) ∙ c .if1 .taken))
+returns c = sym (any-found (by (c .before .before .before .before .before .before .before .before .before .args .join) (rulingAt (c .before .before .before .before .before .before .before .before .before .args .rects .now) (c .before .before .before .before .before .before .before .before .before .args .directions .now) (c .before .before .before .before .before .before .before .before .before .args .chosen .now)) (c .before .before .before .before .before .before .before .before .before .args .a) (c .before .before .before .before .before .before .before .before .before .args .end)) (c .before .before .before .before .before .before .before .before .before .args .set .now) (c .before .before .before .before .loop .k - 1) (place (c .before .before .before .before .loop .inv) (c .before .before .before .loop-test .taken)) (sym (c .before .joined-by .ensures) ∙ c .if1 .taken))
 
 loop-less : tie.Need-loop-less Inv-loop μ-loop
-loop-less c = omega (arith, c .before .before .before .before .loop-test .taken)
+loop-less c = omega (arith, c .before .before .before .loop-test .taken)
 
 loop-again : tie.Need-loop-again Inv-loop μ-loop
-loop-again c = turn (c .before .before .before .before .before .loop .inv) (c .before .before .before .before .loop-test .taken) (read (c .before .before .before .before .before .before .before .before .before .before .args .join) (rulingAt (c .before .before .before .before .before .before .before .before .before .before .args .rects .now) (c .before .before .before .before .before .before .before .before .before .before .args .directions .now) (c .before .before .before .before .before .before .before .before .before .before .args .chosen .now)) (c .before .before .before .before .before .before .before .before .before .before .args .a) (c .before .before .before .before .before .before .before .before .before .before .args .end) (c .before .before .before .before .before .before .before .before .before .before .args .set .now) (c .before .before .before .before .before .loop .k - 1) (c .before .before .ruling-at .ensures) (c .before .joins-end .ensures) ∙ c .if1 .left)
+loop-again c = turn (c .before .before .before .before .loop .inv) (c .before .before .before .loop-test .taken) (sym (c .before .joined-by .ensures) ∙ c .if1 .left)
 
 returns-2 : tie.Need-returns-2 Inv-loop μ-loop
 returns-2 c = behind-end (by (c .before .before .before .before .before .before .args .join) (rulingAt (c .before .before .before .before .before .before .args .rects .now) (c .before .before .before .before .before .before .args .directions .now) (c .before .before .before .before .before .before .args .chosen .now)) (c .before .before .before .before .before .before .args .a) (c .before .before .before .before .before .before .args .end)) (c .before .before .before .before .before .before .args .set .now) (c .before .loop .inv) (omega (arith, c .loop-test .left))
@@ -75,11 +68,10 @@ joined-from-back-spec =
     μ-loop
     loop-holds
     sub-k
-    mul-ruling-at
-    shared-slice-read-ruling-at
-    cast-ruling-at
-    ruling-at-requires
-    joins-end-requires
+    mul-joined-by
+    shared-slice-read-joined-by
+    cast-joined-by
+    joined-by-requires
     returns
     loop-less
     loop-again

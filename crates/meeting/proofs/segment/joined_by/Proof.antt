@@ -1,0 +1,86 @@
+-- `segment::joined_by` meets its contract: a ruling of the same direction joins no end.
+use mathlib.Core.Path.{_≡_, refl, sym, ap, _∙_}
+use mathlib.Core.Bool.{Bool, true, false, cond, not, false≢true}
+use Prim.Native.Nat.{ℕ, _+_}
+use native.Mathlib.Omega.{arith}
+use lib.Dec.{eqb}
+use lib.ListN.{length, getD}
+use Rattle.rects.specs.declared.Rect.{Rect}
+use Rattle.rects.specs.Rects.{rectAt}
+use Rattle.meeting.specs.declared.segment.Segment.{Segment}
+use Rattle.meeting.specs.Segments.{segmentOf, opposite, joinsEnd}
+use borrow.Author.Needs.{needs, scaled-fits}
+use Rattle.meeting.proofs.segment.joined_by.Statement.{statement}
+use Rattle.meeting.proofs.segment.joined_by.Tie as tie
+
+lies-by : (r : Rect) (d : ℕ) → segmentOf r d .horizontal ≡ eqb d 0
+unfolding segmentOf
+lies-by r d = go (eqb d 0)
+  where
+    lying : Segment
+    lying = record { horizontal = true; start = r .x0; end = r .x1; centre2 = r .y0 + r .y1 }
+
+    upright : Segment
+    upright = record { horizontal = false; start = r .y0; end = r .y1; centre2 = r .x0 + r .x1 }
+
+    go : (t : Bool) → (cond t lying upright) .horizontal ≡ t
+    go true = refl
+    go false = refl
+
+not-opposite : (h t : Bool) → cond h t (not t) ≡ true → cond h (not t) t ≡ false
+not-opposite true true e = refl
+not-opposite true false e = absurd (false≢true e)
+not-opposite false true e = absurd (false≢true e)
+not-opposite false false e = refl
+
+alike : {t : Bool} (join e : ℕ) (a : Segment) (r : Rect) (d : ℕ) → t ≡ cond (a .horizontal) (eqb d 0) (not (eqb d 0)) → t ≡ true
+    → false ≡ joinsEnd join e a (segmentOf r d)
+unfolding joinsEnd
+alike join e a r d f g =
+    let o : opposite a (segmentOf r d) ≡ false = ap (λ (t : Bool). cond (a .horizontal) (not t) t) (lies-by r d) ∙ not-opposite (a .horizontal) (eqb d 0) (sym f ∙ g) in
+    rw o refl
+
+mul-place : tie.Need-mul-place
+mul-place c = search needs
+
+shared-slice-read-place : tie.Need-shared-slice-read-place
+shared-slice-read-place c = search needs
+
+cast-place : tie.Need-cast-place
+cast-place c = omega (arith, c .shared-slice-known4 .given (c .before .before .before .before .args .j))
+
+mul-same-way : tie.Need-mul-same-way
+mul-same-way c = scaled-fits (getD (c .before .before .before .before .args .chosen .now) (c .before .before .before .before .args .j) 0) (length (c .before .before .before .before .args .directions .now)) 4 (c .before .before .before .before .pre .1 .direction (c .before .before .before .before .args .j) (c .before .before .before .before .pre .2)) (c .before .before .before .before .good .1 .0 .1)
+
+shared-slice-read-same-way : tie.Need-shared-slice-read-same-way
+shared-slice-read-same-way c = c .before .before .before .before .before .pre .1 .direction (c .before .before .before .before .before .args .j) (c .before .before .before .before .before .pre .2)
+
+same-way-requires : tie.Need-same-way-requires
+same-way-requires c κs = search needs
+
+returns : tie.Need-returns
+returns c = alike (c .before .before .before .before .before .before .before .args .join) (c .before .before .before .before .before .before .before .args .end) (c .before .before .before .before .before .before .before .args .a) (rectAt (c .before .before .before .before .before .before .before .args .rects .now) (getD (c .before .before .before .before .before .before .before .args .chosen .now) (c .before .before .before .before .before .before .before .args .j) 0)) (getD (c .before .before .before .before .before .before .before .args .directions .now) (getD (c .before .before .before .before .before .before .before .args .chosen .now) (c .before .before .before .before .before .before .before .args .j) 0) 0) (c .before .same-way .ensures) (c .if1 .taken)
+
+ruling-at-requires : tie.Need-ruling-at-requires
+ruling-at-requires c κs = (c .before .before .before .before .before .before .before .pre .1, c .before .before .before .before .before .before .before .pre .2)
+
+joins-end-requires : tie.Need-joins-end-requires
+joins-end-requires c κs = c .before .before .before .before .before .before .before .before .pre .0
+
+returns-2 : tie.Need-returns-2
+returns-2 c = c .joins-end .ensures ∙ ap (λ (b : Segment). joinsEnd (c .before .before .before .before .before .before .before .before .before .args .join) (c .before .before .before .before .before .before .before .before .before .args .end) (c .before .before .before .before .before .before .before .before .before .args .a) b) (c .before .ruling-at .ensures)
+
+pub joined-by-spec : {M : Type 1} → statement M
+joined-by-spec =
+    tie.close
+    (tie.spec
+    mul-place
+    shared-slice-read-place
+    cast-place
+    mul-same-way
+    shared-slice-read-same-way
+    same-way-requires
+    returns
+    ruling-at-requires
+    joins-end-requires
+    returns-2)
