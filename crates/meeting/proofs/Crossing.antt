@@ -3,7 +3,7 @@ use mathlib.Core.Path.{_≡_, refl, sym, ap, _∙_}
 use mathlib.Core.Bool.{Bool, true, false, cond, not, _&&_, false≢true}
 use mathlib.Core.Logic.{_⊎_, inl, inr, ⊎-elim}
 use mathlib.Core.List.{List, [], _∷_, _++_, Memᴰ·append-left, Memᴰ·append-right, List·Memᴰ·head, List·Memᴰ·append-cases, List·Memᴰ·eq-of-singleton}
-use Prim.Native.Nat.{ℕ, _+_, _≤_, _<_}
+use Prim.Native.Nat.{ℕ, _+_, _≤_, _<_, min, max}
 use native.Mathlib.Decide.{ℕ-discrete}
 use native.Mathlib.Numerals.{add-one}
 use native.Mathlib.Omega.{arith}
@@ -46,10 +46,10 @@ one-lies join a b e = go (a .horizontal) refl (touch-opposite join a b e)
 
 -- a pair with one parent is one set already, so that joining it changes nothing
 merged-self : (x k : ℕ) → merged x x k ≡ k
-merged-self x k = go (eqb k _) refl
+merged-self x k = go (eqb k (max x x)) refl
   where
-    go : (t : Bool) → eqb k (Prim.Native.Nat.max x x) ≡ t → cond t (Prim.Native.Nat.min x x) k ≡ k
-    go true e = let f : k ≡ Prim.Native.Nat.max x x = eqb-true k (Prim.Native.Nat.max x x) e in omega arith
+    go : (t : Bool) → eqb k (max x x) ≡ t → cond t (min x x) k ≡ k
+    go true e = let f : k ≡ max x x = eqb-true k (max x x) e in omega arith
     go false e = refl
 
 pub joined-apart : {n i j : ℕ} {p q : List ℕ} (touch apart : Bool) → Parents n p → i < n → j < n → (apart ≡ false → getD p i 0 ≡ getD p j 0)

@@ -26,7 +26,7 @@ abbrev pub verticalsOf : (ℕ → Segment) → ℕ → List ℕ
 verticalsOf s n = keep (λ i. not (s i .horizontal)) (below n)
 
 -- They stand in front of a list.
-pub record Listed (s : ℕ → Segment) (n : ℕ) (l : List ℕ) (r : ℕ) : Type 0 where
+pub record VerticalsListed (s : ℕ → Segment) (n : ℕ) (l : List ℕ) (r : ℕ) : Type 0 where
   pub few : r ≤ n
   pub listed : take r l ≡ verticalsOf s n
 

@@ -53,15 +53,6 @@ pub fn vertical_at(rects: &[u32], directions: &[u32], chosen: &[u32], i: usize) 
     segment_of(rects::rect_at(rects, place), 1)
 }
 
-fn opposite(a: Segment, b: Segment) -> bool
-    ensures { λ r. ⌜ r ≡ opposite a b ⌝ }
-{
-    if a.horizontal {
-        return !b.horizontal;
-    }
-    b.horizontal
-}
-
 // Does a doubled place lie within twice the span, widened by the limit?
 fn span_holds(a: Segment, c: u32, join: u64) -> bool
     requires { ⌜ join < 2 ^ 32 ⌝ }
@@ -87,14 +78,11 @@ fn distance(a: u64, b: u64) -> u64
     a - b
 }
 
-// Does ruling b join the end of ruling a?
+// Does ruling b, of the other direction, join the end of ruling a?
 fn joins_end(end: u32, a: Segment, b: Segment, join: u64) -> bool
-    requires { ⌜ join < 2 ^ 32 ⌝ }
+    requires { ⌜ (join < 2 ^ 32) × (opposite a b ≡ true) ⌝ }
     ensures { λ r. ⌜ r ≡ joinsEnd join end a b ⌝ }
 {
-    if !opposite(a, b) {
-        return false;
-    }
     let near = distance(2 * end as u64, b.centre2 as u64) <= 2 * join + 2;
     near & span_holds(b, a.centre2, join)
 }

@@ -9,7 +9,7 @@ use Rattle.lists.specs.Lists.{below}
 use Rattle.lists.proofs.Keep.{length-below, getD-below}
 use Rattle.meeting.specs.declared.segment.Segment.{Segment}
 use Rattle.meeting.specs.Segments.{rulingAt}
-use Rattle.meeting.specs.Steps.{verticalsOf, Listed}
+use Rattle.meeting.specs.Steps.{verticalsOf, VerticalsListed}
 use Rattle.meeting.proofs.Collecting.{Gathering, gather-begin, gather-turn, gather-end}
 use Rattle.meeting.proofs.listing.verticals.Statement.{statement}
 use Rattle.meeting.proofs.listing.verticals.Tie as tie
@@ -28,7 +28,7 @@ module _ (s : ℕ → Segment) (n : ℕ) (list : List ℕ) where
       gather-turn (λ i. not (s i .horizontal)) (λ i. i) (below n) list (not (a .horizontal)) W (rw (length-below n) l) (rw (length-below n) room)
       (sym (getD-below n i l)) (ap (λ (x : Segment). not (x .horizontal)) e ∙ ap (λ (k : ℕ). not (s k .horizontal)) (sym (getD-below n i l))) m
 
-  done : {l : List ℕ} {m i : ℕ} → Walk l m i → n ≤ i → Listed s n l m
+  done : {l : List ℕ} {m i : ℕ} → Walk l m i → n ≤ i → VerticalsListed s n l m
   done W h =
       let r = gather-end (λ i. not (s i .horizontal)) (λ i. i) (below n) list W (rw (length-below n) h) in
       record { few = rw (length-below n) at (r .2); listed = r .1 ∙ map-self (verticalsOf s n) }

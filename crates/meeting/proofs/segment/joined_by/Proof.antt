@@ -33,6 +33,17 @@ not-opposite true false e = absurd (false≢true e)
 not-opposite false true e = absurd (false≢true e)
 not-opposite false false e = refl
 
+are-opposite : (h t : Bool) → cond h t (not t) ≡ false → cond h (not t) t ≡ true
+are-opposite true true e = absurd (false≢true (sym e))
+are-opposite true false e = refl
+are-opposite false true e = refl
+are-opposite false false e = absurd (false≢true (sym e))
+
+across : {t : Bool} {b : Segment} (a : Segment) (r : Rect) (d : ℕ) → t ≡ cond (a .horizontal) (eqb d 0) (not (eqb d 0)) → t ≡ false → b ≡ segmentOf r d
+    → opposite a b ≡ true
+across a r d f g e =
+    ap (λ (x : Segment). opposite a x) e ∙ ap (λ (t : Bool). cond (a .horizontal) (not t) t) (lies-by r d) ∙ are-opposite (a .horizontal) (eqb d 0) (sym f ∙ g)
+
 alike : {t : Bool} (join e : ℕ) (a : Segment) (r : Rect) (d : ℕ) → t ≡ cond (a .horizontal) (eqb d 0) (not (eqb d 0)) → t ≡ true
     → false ≡ joinsEnd join e a (segmentOf r d)
 unfolding joinsEnd
@@ -65,7 +76,7 @@ ruling-at-requires : tie.Need-ruling-at-requires
 ruling-at-requires c κs = (c .before .before .before .before .before .before .before .pre .1, c .before .before .before .before .before .before .before .pre .2)
 
 joins-end-requires : tie.Need-joins-end-requires
-joins-end-requires c κs = c .before .before .before .before .before .before .before .before .pre .0
+joins-end-requires c κs = (c .before .before .before .before .before .before .before .before .pre .0, across (c .before .before .before .before .before .before .before .before .args .a) (rectAt (c .before .before .before .before .before .before .before .before .args .rects .now) (getD (c .before .before .before .before .before .before .before .before .args .chosen .now) (c .before .before .before .before .before .before .before .before .args .j) 0)) (getD (c .before .before .before .before .before .before .before .before .args .directions .now) (getD (c .before .before .before .before .before .before .before .before .args .chosen .now) (c .before .before .before .before .before .before .before .before .args .j) 0) 0) (c .before .before .same-way .ensures) (c .before .if1 .left) (c .ruling-at .ensures))
 
 returns-2 : tie.Need-returns-2
 returns-2 c = c .joins-end .ensures ∙ ap (λ (b : Segment). joinsEnd (c .before .before .before .before .before .before .before .before .before .args .join) (c .before .before .before .before .before .before .before .before .before .args .end) (c .before .before .before .before .before .before .before .before .before .args .a) b) (c .before .ruling-at .ensures)
