@@ -2,12 +2,11 @@
 use mathlib.Core.Path.{_≡_, refl, sym, ap, _∙_}
 use mathlib.Core.Bool.{Bool, true, false}
 use mathlib.Core.List.{List}
-use Prim.Native.Nat.{ℕ, _*_, _≤_, _<_, _^_}
+use Prim.Native.Nat.{ℕ, _*_, _<_, _^_}
 use native.Mathlib.Omega.{arith}
 use lib.Dec.{eqb}
 use lib.IntN.{pos, natAbs}
 use lib.Ieee.{Float, binary64, mul}
-use lib.ListN.{length}
 use borrow.Author.Tests.{ne-eqb, eq-eqb}
 use Rattle.math.specs.Constants.{two}
 use Rattle.math.specs.Rounding.{roundedProduct}
@@ -18,7 +17,7 @@ use Rattle.params.proofs.Limits.{limits, xheight-passed}
 use Rattle.params.proofs.Passed.{settings-passed}
 use Rattle.rects.specs.Rects.{count}
 use Rattle.grids.specs.Boxes.{alignLimit}
-use Rattle.grids.specs.Questions.{roomForBoxes, gridQuestions}
+use Rattle.grids.specs.Questions.{gridQuestions}
 use Rattle.grids.specs.Call.{Lent, hasRoom, missedBy, Grids}
 use Rattle.grids.specs.Steps.{Settled, Filled}
 use Rattle.grids.proofs.Demand.{demand3}

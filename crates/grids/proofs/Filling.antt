@@ -17,7 +17,7 @@ use Rattle.sets.proofs.Listings.{members-listed}
 use Rattle.sets.proofs.Grown.{closedSets-listed}
 use Rattle.grids.specs.Boxes.{touch}
 use Rattle.grids.specs.Reading.{readingOrder}
-use Rattle.grids.specs.Grids.{boxSets, readings}
+use Rattle.grids.specs.Grids.{boxSets}
 use Rattle.grids.specs.Call.{Lent}
 use Rattle.grids.specs.Steps.{Connected, Indexes, SetsIn, Chose, Filled}
 

@@ -3,9 +3,8 @@ use mathlib.Core.Path.{_≡_, refl, sym, ap, _∙_}
 use mathlib.Core.Bool.{Bool, true, false, cond, _&&_}
 use mathlib.Core.List.{List, [], _∷_, _++_}
 use Prim.Native.Nat.{ℕ}
-use lib.Dec.{eqb, leb}
+use lib.Dec.{eqb}
 use lib.Ieee.{Float}
-use lib.ListN.{length}
 use borrow.Author.Tests.{leb-true, eq-eqb, ne-eqb}
 use Rattle.lists.proofs.Every.{and-first, and-second}
 use Rattle.questions.specs.Questions.{firstMissed}

@@ -1,7 +1,7 @@
 -- Similar widths, and touching, are the same either way round: the difference of two whole numbers is exact, and so is the larger.
 use mathlib.Core.Path.{_≡_, refl, sym, ap, ap₂, _∙_}
-use mathlib.Core.Bool.{Bool, true, false, cond, not, _&&_, _||_, and-true, and-false}
-use Prim.Native.Nat.{ℕ, _+_, _-_, _*_, _%_, _^_, _≤_, _<_, min, max}
+use mathlib.Core.Bool.{Bool, true, false, cond, not, _&&_, and-true, and-false}
+use Prim.Native.Nat.{ℕ, _+_, _-_, _*_, _%_, _^_, _≤_, _<_, max}
 use native.Mathlib.Nat.{mul-one, mul-assoc, mul-comm, mul-pos, mul-lt-mul-of-pos-right, mul-le-mul-right, max-comm, min-comm}
 use native.Mathlib.Decide.{decLt}
 use native.Mathlib.Omega.{arith}

@@ -1,6 +1,6 @@
 -- What `box_grids` promises: every lent list for accepted and refused input, and demand 3 for boxes.
 use mathlib.Core.Path.{_≡_}
-use mathlib.Core.Bool.{Bool, true, false, cond}
+use mathlib.Core.Bool.{Bool, true, cond}
 use mathlib.Core.List.{List, [], map}
 use Prim.Native.Nat.{ℕ, _<_}
 use lib.Dec.{eqb}

@@ -1,11 +1,8 @@
 -- `reading::read_set` meets its contract: the keys that were written are those that are sorted, and the members go by their order.
 use mathlib.Core.Path.{_≡_}
-use mathlib.Core.List.{List}
 use Prim.Native.Nat.{ℕ, _≤_}
 use native.Mathlib.Omega.{arith}
-use lib.ListN.{length}
-use Rattle.lists.specs.Lists.{written}
-use Rattle.grids.proofs.ReadingOrder.{places, sorted-places, order-within, read-done}
+use Rattle.grids.proofs.ReadingOrder.{sorted-places, order-within, read-done}
 use borrow.Author.Needs.{needs}
 use Rattle.grids.proofs.reading.read_set.Statement.{statement}
 use Rattle.grids.proofs.reading.read_set.Tie as tie

@@ -14,7 +14,6 @@ use Rattle.sets.proofs.Listings.{joins-closedSets}
 use Rattle.sets.proofs.Sizes.{classes-room}
 use Rattle.grids.specs.Boxes.{touch, Touch}
 use Rattle.grids.specs.Steps.{Connected}
-use borrow.Author.Needs.{needs}
 use Rattle.grids.proofs.touch.connect.Statement.{statement}
 use Rattle.grids.proofs.touch.connect.Tie as tie
 
