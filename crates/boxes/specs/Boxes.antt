@@ -1,6 +1,6 @@
 -- The box of a glyph box, and the boxes of a page: those of every glyph box that is not passed over, in order, and no others.
 use mathlib.Core.Path.{_≡_}
-use mathlib.Core.Bool.{Bool, false, cond, not, _||_}
+use mathlib.Core.Bool.{Bool, false, not, _||_}
 use mathlib.Core.List.{List, [], _∷_, map}
 use Prim.Native.Nat.{ℕ, _<_}
 use lib.Ieee.{Float, lt}
@@ -10,7 +10,6 @@ use Rattle.rects.specs.declared.Rect.{Rect}
 use Rattle.ink.specs.Ink.{Ink}
 use Rattle.boxes.specs.declared.limits.Limits.{Limits}
 use Rattle.boxes.specs.declared.found.CheckBox.{CheckBox}
-use Rattle.boxes.specs.declared.found.Found.{Found}
 use Rattle.boxes.specs.Tests.{sizeMissed, hasFrame, frameOf, aspectMissed, edgeCoverage, tooFull, markOf}
 
 -- The tests on the frame f: size, aspect, edges, inner ink.

@@ -74,7 +74,7 @@ fn share(mask: &[u8], w: usize, band: Rect, rows: bool) -> f64
     ensures { λ s. ⌜ s ≡ lineShare (inkAt w (now (mask .entry))) band rows ⌝ }
 {
     let best = ink::lines::longest(mask, w, band, rows);
-    best as f64 / ink::lines::lines_of(mask, w, band, rows) as f64
+    best as f64 / ink::lines::lines_of(band, rows) as f64
 }
 
 pub fn edge_coverage(mask: &[u8], w: usize, f: Rect, tol: u32) -> f64

@@ -1,7 +1,7 @@
-// The lines of a rectangle, its rows or its columns: the first and the last over a limit, and the longest run of lines with ink.
+// The lines of a rectangle, its rows or its columns, as `rows` says: the first and the last over a limit, and the longest run of lines with ink.
 ghost use mathlib.Core.Path.{_≡_};
 ghost use mathlib.Core.Bool.{cond};
-ghost use Prim.Native.Nat.{suc, _<_};
+ghost use Prim.Native.Nat.{suc, _+_, _^_, _≤_, _<_};
 ghost use lib.Dec.{ltb};
 ghost use lib.Ieee.{Float};
 ghost use Rattle.ink.specs.Ink.{inkAt, linesOf, lineInk, Readable};
@@ -9,8 +9,8 @@ ghost use Rattle.ink.specs.Places.{over, firstPlace, lastEnd, longestRun
 use rects::Rect;
 
 // How many lines there are.
-pub fn lines_of(mask: &[u8], w: usize, r: Rect, rows: bool) -> u32
-    requires { ⌜ Readable (now mask) w r ⌝ }
+pub fn lines_of(r: Rect, rows: bool) -> u32
+    requires { ⌜ (r .x0 ≤ r .x1) × (r .y0 ≤ r .y1) × (r .x1 + 1 < 2 ^ 32) × (r .y1 + 1 < 2 ^ 32) ⌝ }
     ensures { λ n. ⌜ n ≡ linesOf r rows ⌝ }
 {
     if rows {
@@ -52,7 +52,7 @@ pub fn first_line(mask: &[u8], w: usize, r: Rect, rows: bool, limit: f64) -> u32
     requires { ⌜ Readable (now mask) w r ⌝ }
     ensures { λ k. ⌜ k ≡ firstPlace (λ k. over limit (lineInk (inkAt w (now (mask .entry))) r rows k)) (linesOf r rows) ⌝ }
 {
-    let n = lines_of(mask, w, r, rows);
+    let n = lines_of(r, rows);
     let mut k = 0;
     while k < n {
         if is_over(limit, line_count(mask, w, r, rows, k)) {
@@ -68,7 +68,7 @@ pub fn last_line_end(mask: &[u8], w: usize, r: Rect, rows: bool, limit: f64) -> 
     requires { ⌜ Readable (now mask) w r ⌝ }
     ensures { λ k. ⌜ k ≡ lastEnd (λ k. over limit (lineInk (inkAt w (now (mask .entry))) r rows k)) (linesOf r rows) ⌝ }
 {
-    let mut k = lines_of(mask, w, r, rows);
+    let mut k = lines_of(r, rows);
     while 0 < k {
         if is_over(limit, line_count(mask, w, r, rows, k - 1)) {
             return k;
@@ -89,7 +89,7 @@ pub fn longest(mask: &[u8], w: usize, r: Rect, rows: bool) -> u32
     requires { ⌜ Readable (now mask) w r ⌝ }
     ensures { λ k. ⌜ k ≡ longestRun (λ k. ltb 0 (lineInk (inkAt w (now (mask .entry))) r rows k)) (linesOf r rows) ⌝ }
 {
-    let n = lines_of(mask, w, r, rows);
+    let n = lines_of(r, rows);
     let mut best = 0;
     let mut run = 0;
     let mut k = 0;
