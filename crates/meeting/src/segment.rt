@@ -1,8 +1,7 @@
 // A ruling as other rulings meet it.
 ghost use mathlib.Core.Path.{_≡_};
-ghost use mathlib.Core.Bool.{true, false, cond, not};
+ghost use mathlib.Core.Bool.{true, false};
 ghost use Prim.Native.Nat.{_+_, _<_, _^_};
-ghost use lib.Dec.{eqb};
 ghost use lib.ListN.{length};
 ghost use Rattle.meeting.specs.Segments.{segmentOf, rulingAt, opposite, spanHolds, touches, distance, joinsEnd};
 ghost use Rattle.meeting.specs.Steps.{Given};
@@ -87,15 +86,6 @@ fn joins_end(end: u32, a: Segment, b: Segment, join: u64) -> bool
     near & span_holds(b, a.centre2, join)
 }
 
-fn same_way(horizontal: bool, direction: u32) -> bool
-    ensures { λ r. ⌜ r ≡ cond horizontal (eqb direction 0) (not (eqb direction 0)) ⌝ }
-{
-    if horizontal {
-        return direction == 0;
-    }
-    direction != 0
-}
-
 // Does the ruling at index j join the end of ruling a? Its direction is asked before its rectangle is read.
 pub fn joined_by(
     rects: &[u32],
@@ -110,7 +100,7 @@ pub fn joined_by(
     ensures { λ r. ⌜ r ≡ joinsEnd join end a (rulingAt (now (rects .entry)) (now (directions .entry)) (now (chosen .entry)) j) ⌝ }
 {
     let place = chosen[j] as usize;
-    if same_way(a.horizontal, directions[place]) {
+    if (directions[place] == 0) == a.horizontal {
         return false;
     }
     let b = ruling_at(rects, directions, chosen, j);

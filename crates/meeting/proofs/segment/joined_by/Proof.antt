@@ -1,6 +1,6 @@
 -- `segment::joined_by` meets its contract: a ruling of the same direction joins no end.
 use mathlib.Core.Path.{_≡_, refl, sym, ap, _∙_}
-use mathlib.Core.Bool.{Bool, true, false, cond, not, false≢true}
+use mathlib.Core.Bool.{Bool, true, false, Bool·beq, cond, not, false≢true}
 use Prim.Native.Nat.{ℕ, _+_}
 use native.Mathlib.Omega.{arith}
 use lib.Dec.{eqb}
@@ -27,28 +27,26 @@ lies-by r d = go (eqb d 0)
     go true = refl
     go false = refl
 
-not-opposite : (h t : Bool) → cond h t (not t) ≡ true → cond h (not t) t ≡ false
+not-opposite : (h t : Bool) → Bool·beq t h ≡ true → cond h (not t) t ≡ false
 not-opposite true true e = refl
 not-opposite true false e = absurd (false≢true e)
 not-opposite false true e = absurd (false≢true e)
 not-opposite false false e = refl
 
-are-opposite : (h t : Bool) → cond h t (not t) ≡ false → cond h (not t) t ≡ true
+are-opposite : (h t : Bool) → Bool·beq t h ≡ false → cond h (not t) t ≡ true
 are-opposite true true e = absurd (false≢true (sym e))
 are-opposite true false e = refl
 are-opposite false true e = refl
 are-opposite false false e = absurd (false≢true (sym e))
 
-across : {t : Bool} {b : Segment} (a : Segment) (r : Rect) (d : ℕ) → t ≡ cond (a .horizontal) (eqb d 0) (not (eqb d 0)) → t ≡ false → b ≡ segmentOf r d
-    → opposite a b ≡ true
-across a r d f g e =
-    ap (λ (x : Segment). opposite a x) e ∙ ap (λ (t : Bool). cond (a .horizontal) (not t) t) (lies-by r d) ∙ are-opposite (a .horizontal) (eqb d 0) (sym f ∙ g)
+across : {b : Segment} (a : Segment) (r : Rect) (d : ℕ) → Bool·beq (eqb d 0) (a .horizontal) ≡ false → b ≡ segmentOf r d → opposite a b ≡ true
+across a r d f e =
+    ap (λ (x : Segment). opposite a x) e ∙ ap (λ (t : Bool). cond (a .horizontal) (not t) t) (lies-by r d) ∙ are-opposite (a .horizontal) (eqb d 0) f
 
-alike : {t : Bool} (join e : ℕ) (a : Segment) (r : Rect) (d : ℕ) → t ≡ cond (a .horizontal) (eqb d 0) (not (eqb d 0)) → t ≡ true
-    → false ≡ joinsEnd join e a (segmentOf r d)
+alike : (join e : ℕ) (a : Segment) (r : Rect) (d : ℕ) → Bool·beq (eqb d 0) (a .horizontal) ≡ true → false ≡ joinsEnd join e a (segmentOf r d)
 unfolding joinsEnd
-alike join e a r d f g =
-    let o : opposite a (segmentOf r d) ≡ false = ap (λ (t : Bool). cond (a .horizontal) (not t) t) (lies-by r d) ∙ not-opposite (a .horizontal) (eqb d 0) (sym f ∙ g) in
+alike join e a r d f =
+    let o : opposite a (segmentOf r d) ≡ false = ap (λ (t : Bool). cond (a .horizontal) (not t) t) (lies-by r d) ∙ not-opposite (a .horizontal) (eqb d 0) f in
     rw o refl
 
 mul-place : tie.Need-mul-place
@@ -60,23 +58,20 @@ shared-slice-read-place c = search needs
 cast-place : tie.Need-cast-place
 cast-place c = omega (arith, c .shared-slice-known4 .given (c .before .before .before .before .args .j))
 
-mul-same-way : tie.Need-mul-same-way
-mul-same-way c = scaled-fits (getD (c .before .before .before .before .args .chosen .now) (c .before .before .before .before .args .j) 0) (length (c .before .before .before .before .args .directions .now)) 4 (c .before .before .before .before .pre .1 .direction (c .before .before .before .before .args .j) (c .before .before .before .before .pre .2)) (c .before .before .before .before .good .1 .0 .1)
+mul-if1 : tie.Need-mul-if1
+mul-if1 c = scaled-fits (getD (c .before .before .before .before .args .chosen .now) (c .before .before .before .before .args .j) 0) (length (c .before .before .before .before .args .directions .now)) 4 (c .before .before .before .before .pre .1 .direction (c .before .before .before .before .args .j) (c .before .before .before .before .pre .2)) (c .before .before .before .before .good .1 .0 .1)
 
-shared-slice-read-same-way : tie.Need-shared-slice-read-same-way
-shared-slice-read-same-way c = c .before .before .before .before .before .pre .1 .direction (c .before .before .before .before .before .args .j) (c .before .before .before .before .before .pre .2)
-
-same-way-requires : tie.Need-same-way-requires
-same-way-requires c κs = search needs
+shared-slice-read-if1 : tie.Need-shared-slice-read-if1
+shared-slice-read-if1 c = c .before .before .before .before .before .pre .1 .direction (c .before .before .before .before .before .args .j) (c .before .before .before .before .before .pre .2)
 
 returns : tie.Need-returns
-returns c = alike (c .before .before .before .before .before .before .before .args .join) (c .before .before .before .before .before .before .before .args .end) (c .before .before .before .before .before .before .before .args .a) (rectAt (c .before .before .before .before .before .before .before .args .rects .now) (getD (c .before .before .before .before .before .before .before .args .chosen .now) (c .before .before .before .before .before .before .before .args .j) 0)) (getD (c .before .before .before .before .before .before .before .args .directions .now) (getD (c .before .before .before .before .before .before .before .args .chosen .now) (c .before .before .before .before .before .before .before .args .j) 0) 0) (c .before .same-way .ensures) (c .if1 .taken)
+returns c = alike (c .before .before .before .before .before .before .before .args .join) (c .before .before .before .before .before .before .before .args .end) (c .before .before .before .before .before .before .before .args .a) (rectAt (c .before .before .before .before .before .before .before .args .rects .now) (getD (c .before .before .before .before .before .before .before .args .chosen .now) (c .before .before .before .before .before .before .before .args .j) 0)) (getD (c .before .before .before .before .before .before .before .args .directions .now) (getD (c .before .before .before .before .before .before .before .args .chosen .now) (c .before .before .before .before .before .before .before .args .j) 0) 0) (c .if1 .taken)
 
 ruling-at-requires : tie.Need-ruling-at-requires
 ruling-at-requires c κs = (c .before .before .before .before .before .before .before .pre .1, c .before .before .before .before .before .before .before .pre .2)
 
 joins-end-requires : tie.Need-joins-end-requires
-joins-end-requires c κs = (c .before .before .before .before .before .before .before .before .pre .0, across (c .before .before .before .before .before .before .before .before .args .a) (rectAt (c .before .before .before .before .before .before .before .before .args .rects .now) (getD (c .before .before .before .before .before .before .before .before .args .chosen .now) (c .before .before .before .before .before .before .before .before .args .j) 0)) (getD (c .before .before .before .before .before .before .before .before .args .directions .now) (getD (c .before .before .before .before .before .before .before .before .args .chosen .now) (c .before .before .before .before .before .before .before .before .args .j) 0) 0) (c .before .before .same-way .ensures) (c .before .if1 .left) (c .ruling-at .ensures))
+joins-end-requires c κs = (c .before .before .before .before .before .before .before .before .pre .0, across (c .before .before .before .before .before .before .before .before .args .a) (rectAt (c .before .before .before .before .before .before .before .before .args .rects .now) (getD (c .before .before .before .before .before .before .before .before .args .chosen .now) (c .before .before .before .before .before .before .before .before .args .j) 0)) (getD (c .before .before .before .before .before .before .before .before .args .directions .now) (getD (c .before .before .before .before .before .before .before .before .args .chosen .now) (c .before .before .before .before .before .before .before .before .args .j) 0) 0) (c .before .if1 .left) (c .ruling-at .ensures))
 
 returns-2 : tie.Need-returns-2
 returns-2 c = c .joins-end .ensures ∙ ap (λ (b : Segment). joinsEnd (c .before .before .before .before .before .before .before .before .before .args .join) (c .before .before .before .before .before .before .before .before .before .args .end) (c .before .before .before .before .before .before .before .before .before .args .a) b) (c .before .ruling-at .ensures)
@@ -88,9 +83,8 @@ joined-by-spec =
     mul-place
     shared-slice-read-place
     cast-place
-    mul-same-way
-    shared-slice-read-same-way
-    same-way-requires
+    mul-if1
+    shared-slice-read-if1
     returns
     ruling-at-requires
     joins-end-requires
