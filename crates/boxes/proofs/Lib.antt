@@ -3,7 +3,6 @@ pub mod Frames
 pub mod Bands
 pub mod Halves
 pub mod Tests
-pub mod Stores
 pub mod Listing
 pub mod Accepted
 pub mod Call

@@ -13,14 +13,14 @@ use Rattle.lists.specs.Lists.{In, below, keep, concat, written}
 use Rattle.lists.proofs.Keep.{map-append, keep-append, concat-append, length-below, kept-in, in-kept, in-below, below-in}
 use Rattle.lists.proofs.Sizes.{keep-size-le}
 use Rattle.lists.proofs.Written.{written-run}
-use Rattle.rects.specs.Rects.{count, rectAt}
+use Rattle.rects.specs.Rects.{count, rectAt, numbersOf}
 use Rattle.rects.specs.declared.Rect.{Rect}
 use Rattle.ink.specs.Ink.{Ink, inkAt}
 use Rattle.boxes.specs.declared.limits.Limits.{Limits}
 use Rattle.boxes.specs.declared.found.CheckBox.{CheckBox}
 use Rattle.boxes.specs.declared.found.Found.{Found}
 use Rattle.boxes.specs.declared.found.Found.the-variants.{PassedOver, Box}
-use Rattle.boxes.specs.Boxes.{passedOver, boxOf, chosen, boxesBelow, boxesOf, EveryBox, numbersOf, rectanglesOf, marksOf, coveragesOf}
+use Rattle.boxes.specs.Boxes.{passedOver, boxOf, chosen, boxesBelow, boxesOf, EveryBox, rectanglesOf, marksOf, coveragesOf}
 use Rattle.boxes.specs.Steps.{foundOf, listed, RoomAt, Stored, Ready, Made}
 
 -- ---- one glyph box more

@@ -5,7 +5,7 @@ use mathlib.Core.List.{List, [], _∷_, map}
 use Prim.Native.Nat.{ℕ, _<_}
 use lib.Ieee.{Float, lt}
 use Rattle.lists.specs.Lists.{In, below, keep, concat}
-use Rattle.rects.specs.Rects.{widthOf, heightOf, rectAt, count}
+use Rattle.rects.specs.Rects.{widthOf, heightOf, rectAt, numbersOf, count}
 use Rattle.rects.specs.declared.Rect.{Rect}
 use Rattle.ink.specs.Ink.{Ink}
 use Rattle.boxes.specs.declared.limits.Limits.{Limits}
@@ -57,9 +57,6 @@ pub record EveryBox (ink : Ink) (l : Limits) (glyphs ks : List ℕ) (bs : List C
   pub in-order : ks ≡ keep (λ k. not (passedOver ink l (rectAt glyphs k))) (below (count glyphs))
 
 -- What the lists of a page hold: four numbers a box, its mark, its edge coverage.
-abbrev pub numbersOf : Rect → List ℕ
-numbersOf r = r .x0 ∷ r .y0 ∷ r .x1 ∷ r .y1 ∷ []
-
 abbrev pub rectanglesOf : List CheckBox → List ℕ
 rectanglesOf bs = concat (map (λ b. numbersOf (b .bbox)) bs)
 

@@ -3,22 +3,10 @@ ghost use mathlib.Core.Path.{_≡_};
 ghost use Prim.Native.Nat.{_+_, _*_, _≤_, _<_};
 ghost use lib.ListN.{length};
 ghost use lib.Seq.{sets};
-ghost use Rattle.boxes.specs.Boxes.{numbersOf};
 ghost use Rattle.boxes.specs.Steps.{RoomAt, Stored, Ready, Made};
 use crate::found::Found;
 use crate::limits::Limits;
 use rects::Rect;
-
-fn put_rect(rects: &mut [u32], k: usize, r: Rect)
-    requires { ⌜ 4 * k + 4 ≤ length (now rects) ⌝ }
-    ensures { λ _. ⌜ now (rects .exit) ≡ sets (now (rects .entry)) (4 * k) (numbersOf r) ⌝ }
-{
-    let at = 4 * k;
-    rects[at] = r.x0;
-    rects[at + 1] = r.y0;
-    rects[at + 2] = r.x1;
-    rects[at + 3] = r.y1;
-}
 
 // Stores a box after n others, and returns how many there are.
 fn store(
@@ -34,7 +22,7 @@ fn store(
     match found {
         Found::PassedOver => n,
         Found::Box(b) => {
-            put_rect(rects, n, b.bbox);
+            rects::put_rect(rects, n, b.bbox);
             marks[n] = b.mark;
             coverages[n] = b.edge_coverage;
             n + 1

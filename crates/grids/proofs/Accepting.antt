@@ -19,7 +19,8 @@ use Rattle.rects.specs.Rects.{count}
 use Rattle.grids.specs.Boxes.{alignLimit}
 use Rattle.grids.specs.Questions.{gridQuestions}
 use Rattle.grids.specs.Call.{Lent, hasRoom, missedBy, Grids}
-use Rattle.grids.specs.Steps.{Settled, Filled}
+use Rattle.grids.specs.Steps.{Filled}
+use Rattle.params.specs.Settled.{Settled}
 use Rattle.grids.proofs.Demand.{demand3}
 use Rattle.grids.proofs.Passing.{passed}
 

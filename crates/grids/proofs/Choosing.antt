@@ -1,20 +1,16 @@
--- Which sets are grids, one set more a turn; and demand 3: of the closed sets, those that reach the minimum are listed in turn, each once.
+-- Which sets are grids, one set more a turn.
 use mathlib.Core.Path.{_≡_, refl, sym, ap, _∙_}
-use mathlib.Core.Bool.{Bool, true}
-use mathlib.Core.List.{List, [], _∷_, _++_, map}
+use mathlib.Core.List.{List, [], _∷_, _++_}
 use Prim.Native.Nat.{ℕ, suc, _+_, _≤_, _<_}
 use native.Mathlib.Numerals.{add-one}
 use native.Mathlib.Omega.{arith}
-use lib.ListN.{length, getD, set, length-append, length-map}
+use lib.ListN.{length, set, length-append}
 use borrow.Author.Tests.{le-leb, lt-leb}
 use Rattle.lists.specs.Lists.{below, keep, written}
-use Rattle.lists.proofs.Keep.{length-below, in-below, below-in, kept-in, in-kept, in-at, at-in, getD-map}
+use Rattle.lists.proofs.Keep.{length-below}
 use Rattle.lists.proofs.Sizes.{keep-size-le, keep-one, keep-past}
 use Rattle.lists.proofs.Written.{written-more}
-use Rattle.sets.specs.Closed.{Once, Listed}
-use Rattle.sets.proofs.Ascending.{ascending-below, ascending-keep, one-place}
 use Rattle.grids.specs.Grids.{isGrid, gridNumbers}
-use Rattle.grids.specs.Call.{ListedWhere}
 use Rattle.grids.specs.Steps.{Chose}
 
 module _ (least : ℕ) (f : ℕ → List ℕ) where
@@ -50,46 +46,3 @@ module _ (least : ℕ) (f : ℕ → List ℕ) where
     -- any other set is passed over
     pub chose-past : length s < least → Chose least f (k + 1) nu nu′ g
     chose-past h = record { grids = C .grids ∙ sym (ap length (past h)); numbers = C .numbers ∙ ap (λ (l : List ℕ). written l nu) (sym (past h)) }
-
--- ---- demand 3
-
-module _ {D : ℕ → Type 0} {R : ℕ → ℕ → Type 0} {ss : List (List ℕ)} (L : Listed D R ss) (test : List ℕ → Bool) where
-  abbrev at : ℕ → List ℕ
-  at k = getD ss k []
-
-  -- the numbers of the sets that pass
-  abbrev passing : List ℕ
-  passing = keep (λ k. test (at k)) (below (length ss))
-
-  count : length (map at passing) ≡ length passing
-  count = length-map passing at
-
-  number-of : (t : ℕ) → t < length passing → (getD passing t 0 < length ss) × (test (at (getD passing t 0)) ≡ true)
-  number-of t h =
-      let m = kept-in (λ k. test (at k)) (below (length ss)) (getD passing t 0) (at-in passing t h) in
-      (below-in (length ss) (getD passing t 0) (m .0), m .1)
-
-  set-of : (t : ℕ) → t < length passing → getD (map at passing) t [] ≡ at (getD passing t 0)
-  set-of t h = getD-map at passing t [] h
-
-  found : {s : List ℕ} → test s ≡ true → Once ss s → Once (map at passing) s
-  found {s} pass O =
-      let stands : at (O .number) ≡ s = O .stands in
-      let place = in-at passing (O .number) (in-kept (λ k. test (at k)) (below (length ss)) (O .number) (in-below (length ss) (O .number) (O .inside)) (ap test stands ∙ pass)) in
-      record {
-        number = place .0;
-        inside = rw count (place .1);
-        stands = set-of (place .0) (place .1) ∙ ap at (place .2) ∙ stands;
-        only = λ k h e.
-            let l : k < length passing = rw count at h in
-            one-place (ascending-keep (λ k. test (at k)) (ascending-below (length ss))) k (place .0) l (place .1)
-            (O .only (getD passing k 0) (number-of k l .0) (sym (set-of k l) ∙ e) ∙ sym (place .2));
-      }
-
-  pub listed-where : ListedWhere D R test (map at passing)
-  listed-where =
-      record {
-        closed = λ k h. let l : k < length passing = rw count at h in rw (set-of k l) (L .closed (getD passing k 0) (number-of k l .0));
-        passes = λ k h. let l : k < length passing = rw count at h in ap test (set-of k l) ∙ number-of k l .1;
-        once = λ s c pass. found pass (L .once s c);
-      }

@@ -16,7 +16,8 @@ use Rattle.rects.specs.Rects.{count, countFits, allInside}
 use Rattle.rects.proofs.Questions.{count-says, all-inside-says}
 use Rattle.grids.specs.Questions.{gridQuestions}
 use Rattle.grids.specs.Call.{Lent, hasRoom}
-use Rattle.grids.specs.Steps.{Given, Settled, Roomy}
+use Rattle.grids.specs.Steps.{Given, Roomy}
+use Rattle.params.specs.Settled.{Settled}
 
 -- two numbers and three tests, in the order of the questions
 abbrev pub nested : ℕ → Bool → Bool → ℕ → Bool → ℕ

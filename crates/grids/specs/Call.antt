@@ -10,7 +10,7 @@ use lib.ListN.{length, getD}
 use Rattle.lists.specs.Lists.{concat, written}
 use Rattle.math.specs.Constants.{two}
 use Rattle.math.specs.Rounding.{roundedProduct}
-use Rattle.sets.specs.Closed.{Below, Closed, Once, Listed}
+use Rattle.sets.specs.Closed.{Below, Listed, ListedWhere}
 use Rattle.sets.specs.Listing.{endsFrom}
 use Rattle.questions.specs.Questions.{firstMissed}
 use Rattle.params.specs.declared.settings.RulingsParams.{RulingsParams}
@@ -19,12 +19,6 @@ use Rattle.grids.specs.Boxes.{Touch, alignLimit}
 use Rattle.grids.specs.Reading.{InReadingOrder, readingOrder}
 use Rattle.grids.specs.Grids.{boxSets, isGrid, grids, readings}
 use Rattle.grids.specs.Questions.{roomForBoxes, gridQuestions}
-
--- A listing of the closed sets that pass a test: each number below the count names one, and each is listed once.
-pub record ListedWhere (D : ℕ → Type 0) (R : ℕ → ℕ → Type 0) (test : List ℕ → Bool) (ss : List (List ℕ)) : Type 0 where
-  pub closed : (k : ℕ) → k < length ss → Closed D R (getD ss k [])
-  pub passes : (k : ℕ) → k < length ss → test (getD ss k []) ≡ true
-  pub once : (s : List ℕ) → Closed D R s → test s ≡ true → Once ss s
 
 -- Demand 3 for boxes: a set is listed exactly when it is closed, and then once; the grids are exactly the closed sets that reach the grid
 -- minimum, each once; and each reading order has its set's members by y0, then x0, then index.

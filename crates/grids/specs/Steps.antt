@@ -10,8 +10,6 @@ use Rattle.lists.specs.Lists.{In, below, concat, written}
 use Rattle.sets.specs.Listing.{endsFrom}
 use Rattle.questions.specs.Questions.{firstMissed}
 use Rattle.params.specs.declared.settings.RulingsParams.{RulingsParams}
-use Rattle.params.specs.Scan.{xheightQuestions}
-use Rattle.params.specs.Settings.{settingsQuestions}
 use Rattle.rects.specs.Rects.{count, rectAt, Inside}
 use Rattle.grids.specs.Grids.{boxSets, gridNumbers, grids, readings}
 use Rattle.grids.specs.Call.{Lent}
@@ -56,11 +54,6 @@ pub record WorkRoom (n o w k : ℕ) : Type 0 where
 pub record Chose (least : ℕ) (set : ℕ → List ℕ) (r : ℕ) (nu nu′ : List ℕ) (g : ℕ) : Type 0 where
   pub grids : g ≡ length (gridNumbers least set r)
   pub numbers : nu′ ≡ written (gridNumbers least set r) nu
-
--- The settings and the x-height miss no question.
-pub record Settled (p : RulingsParams) (xheight : Float) : Type 0 where
-  pub settings : firstMissed (settingsQuestions p) ≡ 0
-  pub xheight-passed : firstMissed (xheightQuestions xheight) ≡ 0
 
 -- Every list has room for n boxes: what question 14 shows.
 pub record Roomy (n : ℕ) (l : Lent) : Type 0 where

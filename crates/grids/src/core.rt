@@ -2,8 +2,9 @@
 ghost use mathlib.Core.Path.{_≡_};
 ghost use Prim.Native.Nat.{_<_, _^_};
 ghost use Rattle.rects.specs.Rects.{count};
+ghost use Rattle.params.specs.Settled.{Settled};
 ghost use Rattle.grids.specs.Boxes.{alignLimit};
-ghost use Rattle.grids.specs.Steps.{Given, Settled, Roomy, Filled};
+ghost use Rattle.grids.specs.Steps.{Given, Roomy, Filled};
 use crate::reading;
 use crate::touch;
 use params::settings::RulingsParams;

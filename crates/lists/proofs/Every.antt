@@ -2,7 +2,8 @@
 use mathlib.Core.Path.{_≡_, refl, sym, ap, _∙_, subst}
 use mathlib.Core.Logic.{_⊎_, inl, inr}
 use mathlib.Core.Bool.{Bool, true, false, _&&_, true≢false}
-use Prim.Native.Nat.{ℕ, zero, suc, _<_}
+use Prim.Native.Nat.{ℕ, zero, suc, _+_, _<_}
+use native.Mathlib.Numerals.{add-one}
 use native.Mathlib.Nat.{not-suc-le-zero, le-of-suc-le-suc, le-step, lt-suc-self, eq-or-lt-of-le}
 use Rattle.lists.specs.Lists.{everyBelow}
 
@@ -39,3 +40,7 @@ every-fails (suc n) q k l h =
       | inl e ↦ ap (λ (b : Bool). everyBelow n q && b) (subst (λ (j : ℕ). q j ≡ false) e h) ∙ and-false (everyBelow n q)
       | inr g ↦ ap (λ (b : Bool). b && q n) (every-fails n q k g h)
     ]
+
+pub every-more : (n : ℕ) (q : ℕ → Bool) → everyBelow (n + 1) q ≡ everyBelow n q && q n
+unfolding everyBelow
+every-more n q = ap (λ (k : ℕ). everyBelow k q) (add-one n)

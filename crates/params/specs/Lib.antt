@@ -2,3 +2,4 @@
 pub mod Constants
 pub mod Scan
 pub mod Settings
+pub mod Settled

@@ -1,7 +1,7 @@
 -- Rectangles, x0, y0, x1, y1, both ends inside, and lists of them: four numbers each.
 use Prim.Native.Nat.{ℕ, _+_, _-_, _*_, _/_, _%_, _≤_, _<_}
 use mathlib.Core.Bool.{Bool, _&&_}
-use mathlib.Core.List.{List}
+use mathlib.Core.List.{List, [], _∷_}
 use lib.Dec.{leb, ltb, eqb}
 use lib.ListN.{length, getD}
 use Rattle.lists.specs.Lists.{everyBelow}
@@ -20,6 +20,10 @@ count rects = length rects / 4
 -- Rectangle k of a number list.
 abbrev pub rectAt : List ℕ → ℕ → Rect
 rectAt rects k = record { x0 = getD rects (4 * k) 0; y0 = getD rects (4 * k + 1) 0; x1 = getD rects (4 * k + 2) 0; y1 = getD rects (4 * k + 3) 0 }
+
+-- A rectangle as four numbers.
+abbrev pub numbersOf : Rect → List ℕ
+numbersOf r = r .x0 ∷ r .y0 ∷ r .x1 ∷ r .y1 ∷ []
 
 -- Ordered, and inside a picture of w columns and h rows.
 abbrev pub inside : ℕ → ℕ → Rect → Bool

@@ -2,7 +2,8 @@
 ghost use mathlib.Core.Path.{_≡_};
 ghost use Prim.Native.Nat.{ℕ, _+_, _*_, _^_, _<_, _≤_};
 ghost use lib.ListN.{length, getD};
-ghost use Rattle.rects.specs.Rects.{widthOf, heightOf, rectAt, inside, countFits, allInside};
+ghost use lib.Seq.{sets};
+ghost use Rattle.rects.specs.Rects.{widthOf, heightOf, rectAt, numbersOf, inside, countFits, allInside};
 ghost use Rattle.rects.specs.Around.{unionOf, unioned, around, Places};
 
 // Both ends are inside.
@@ -78,6 +79,18 @@ pub fn rect_at(rects: &[u32], k: usize) -> Rect
     }
 }
 
+// Rectangle k of a number list becomes r.
+pub fn put_rect(rects: &mut [u32], k: usize, r: Rect)
+    requires { ⌜ 4 * k + 4 ≤ length (now rects) ⌝ }
+    ensures { λ _. ⌜ now (rects .exit) ≡ sets (now (rects .entry)) (4 * k) (numbersOf r) ⌝ }
+{
+    let at = 4 * k;
+    rects[at] = r.x0;
+    rects[at + 1] = r.y0;
+    rects[at + 2] = r.x1;
+    rects[at + 3] = r.y1;
+}
+
 // The smallest rectangle around those at the given places.
 pub fn bounding(rects: &[u32], places: &[u32]) -> Rect
     requires { ⌜ (0 < length (now places)) × Places (now rects) (now places) ⌝ }
@@ -99,17 +112,16 @@ pub fn count_fits(rects: &[u32], most: usize) -> bool
     (rects.len() % 4 == 0) & (rects.len() / 4 <= most)
 }
 
-// Question 6.
+// Question 6. Every rectangle is asked, since a loop without a way out is the quicker one.
 pub fn all_inside(rects: &[u32], w: usize, h: usize) -> bool
     ensures { λ r. ⌜ r ≡ allInside w h (now (rects .entry)) ⌝ }
 {
     let n = rects.len() / 4;
+    let mut all = true;
     let mut k = 0;
     while k < n {
-        if !rect_at(rects, k).is_inside(w, h) {
-            return false;
-        }
+        all = all & rect_at(rects, k).is_inside(w, h);
         k += 1;
     }
-    true
+    all
 }

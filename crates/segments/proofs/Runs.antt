@@ -60,16 +60,6 @@ pub copied : (to from : List ℕ) (at i : ℕ) → at + length from ≤ length t
 copied to from at i h e =
     ap (paste to at from) e ∙ ap (λ (w : List ℕ). take at to ++ w ++ drop (at + length from) to) (take-length from) ∙ sym (sets-eq from to at h)
 
--- four numbers, one after the other
-pub four : (l : List ℕ) (at a b c d : ℕ) → set (set (set (set l at a) (at + 1) b) (at + 2) c) (at + 3) d ≡ sets l at (a ∷ b ∷ c ∷ d ∷ [])
-four l at a b c d =
-    let one : at + 1 ≡ suc at = omega arith in
-    let two : at + 2 ≡ suc (suc at) = omega arith in
-    let three : at + 3 ≡ suc (suc (suc at)) = omega arith in
-    ap (λ (i : ℕ). set (set (set (set l at a) i b) (at + 2) c) (at + 3) d) one
-    ∙ ap (λ (i : ℕ). set (set (set (set l at a) (suc at) b) i c) (at + 3) d) two
-    ∙ ap (λ (i : ℕ). set (set (set (set l at a) (suc at) b) (suc (suc at)) c) i d) three
-
 -- runs of four
 pub total-four : (f : ℕ → List ℕ) → ((k : ℕ) → length (f k) ≡ 4) → (k : ℕ) → total f k ≡ 4 * k
 total-four f four k = go k

@@ -10,7 +10,7 @@ use Rattle.lists.specs.Lists.{concat}
 use Rattle.sets.specs.Listing.{closedSets}
 use Rattle.order.specs.Order.{sortedIndexes}
 use Rattle.rects.specs.declared.Rect.{Rect}
-use Rattle.rects.specs.Rects.{count, rectAt}
+use Rattle.rects.specs.Rects.{count, rectAt, numbersOf}
 use Rattle.rects.specs.Around.{around}
 use Rattle.params.specs.declared.settings.RulingsParams.{RulingsParams}
 use Rattle.contrast.specs.Contrast.{contrastOf}
@@ -46,10 +46,6 @@ rulingOf raster w h pieces s =
       horizontal = directionOf pieces s;
       contrast = contrastOf raster w h (around pieces s) (directionOf pieces s);
     }
-
--- A rectangle as four numbers.
-abbrev pub numbersOf : Rect → List ℕ
-numbersOf r = r .x0 ∷ r .y0 ∷ r .x1 ∷ r .y1 ∷ []
 
 -- A direction as a number: 0 for horizontal and 1 for vertical.
 abbrev pub directionNumber : Bool → ℕ

@@ -3,7 +3,6 @@ ghost use mathlib.Core.Path.{_≡_};
 ghost use Prim.Native.Nat.{_+_, _*_, _≤_};
 ghost use lib.ListN.{length};
 ghost use lib.Seq.{sets};
-ghost use Rattle.segments.specs.Rulings.{numbersOf};
 ghost use Rattle.segments.specs.Steps.{Parts, partsOf, inOrder, Copied, Strung, RoomForSets, Described, RoomForRulings, Picture};
 use rects::Rect;
 
@@ -43,17 +42,6 @@ pub fn write_sets(
     }
 }
 
-fn put_rect(rects: &mut [u32], k: usize, r: Rect)
-    requires { ⌜ 4 * k + 4 ≤ length (now rects) ⌝ }
-    ensures { λ _. ⌜ now (rects .exit) ≡ sets (now (rects .entry)) (4 * k) (numbersOf r) ⌝ }
-{
-    let at = 4 * k;
-    rects[at] = r.x0;
-    rects[at + 1] = r.y0;
-    rects[at + 2] = r.x1;
-    rects[at + 3] = r.y1;
-}
-
 // Writes the ruling of each set.
 pub fn write_rulings(
     raster: &[u8],
@@ -75,7 +63,7 @@ pub fn write_rulings(
     while k < count {
         let set = sets::members_of(members, ends, count, k);
         let r = crate::ruling::ruling_of(raster, w, h, pieces, set);
-        put_rect(rects, k, r.rect);
+        rects::put_rect(rects, k, r.rect);
         directions[k] = r.direction();
         contrasts[k] = r.contrast;
         k += 1;

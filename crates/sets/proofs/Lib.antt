@@ -7,6 +7,7 @@ pub mod Pairs
 pub mod Ascending
 pub mod Classes
 pub mod Grown
+pub mod Where
 pub mod Reordered
 pub mod Trails
 pub mod Sizes

@@ -1,5 +1,6 @@
 -- Closed sets, as document 01 has them: sets of indexes of a domain D, over any rule R of two indexes.
 use mathlib.Core.Path.{_≡_}
+use mathlib.Core.Bool.{Bool, true}
 use mathlib.Core.Logic.{_⊎_}
 use mathlib.Core.List.{List, [], _∷_}
 use Prim.Native.Nat.{ℕ, _≤_, _<_}
@@ -51,3 +52,9 @@ pub record Once (ss : List (List ℕ)) (s : List ℕ) : Type 0 where
 pub record Listed (D : ℕ → Type 0) (R : ℕ → ℕ → Type 0) (ss : List (List ℕ)) : Type 0 where
   pub closed : (k : ℕ) → k < length ss → Closed D R (getD ss k [])
   pub once : (s : List ℕ) → Closed D R s → Once ss s
+
+-- A listing of the closed sets that pass a test: each number below the count names one, and each is listed once.
+pub record ListedWhere (D : ℕ → Type 0) (R : ℕ → ℕ → Type 0) (test : List ℕ → Bool) (ss : List (List ℕ)) : Type 0 where
+  pub closed : (k : ℕ) → k < length ss → Closed D R (getD ss k [])
+  pub passes : (k : ℕ) → k < length ss → test (getD ss k []) ≡ true
+  pub once : (s : List ℕ) → Closed D R s → test s ≡ true → Once ss s

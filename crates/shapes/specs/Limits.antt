@@ -1,12 +1,8 @@
 -- The limits of `tables`: J, the line limit and the set minima.
-use mathlib.Core.Path.{_≡_}
 use lib.IntN.{natAbs}
 use lib.Ieee.{Float}
 use Rattle.math.specs.Rounding.{roundedProduct}
-use Rattle.questions.specs.Questions.{firstMissed}
 use Rattle.params.specs.declared.settings.RulingsParams.{RulingsParams}
-use Rattle.params.specs.Scan.{xheightQuestions}
-use Rattle.params.specs.Settings.{settingsQuestions}
 use Rattle.shapes.specs.declared.limits.Limits.{Limits}
 
 -- J is round(join_tol_xh × x-height) and the line limit round(line_cluster_xh × x-height), which are not below 0 once the questions are passed.
@@ -18,8 +14,3 @@ limitsOf p xheight =
       «min_horizontal» = p .«table_min_horizontal»;
       «min_vertical» = p .«table_min_vertical»;
     }
-
--- The settings and the x-height miss no question.
-pub record Settled (p : RulingsParams) (xheight : Float) : Type 0 where
-  pub settings : firstMissed (settingsQuestions p) ≡ 0
-  pub xheight-passed : firstMissed (xheightQuestions xheight) ≡ 0

@@ -4,7 +4,8 @@ ghost use Prim.Native.Nat.{_*_};
 ghost use lib.IntN.{natAbs};
 ghost use Rattle.math.specs.Rounding.{roundedProduct};
 ghost use Rattle.math.proofs.Limit.{UpTo};
-ghost use Rattle.shapes.specs.Limits.{limitsOf, Settled};
+ghost use Rattle.params.specs.Settled.{Settled};
+ghost use Rattle.shapes.specs.Limits.{limitsOf};
 use params::settings::RulingsParams;
 
 pub struct Limits {

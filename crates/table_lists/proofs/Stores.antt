@@ -13,11 +13,3 @@ sets-more [] l i v = ap (λ (k : ℕ). set l k v) (add-zero i)
 sets-more (x ∷ xs) l i v =
     let e : i + suc (length xs) ≡ suc i + length xs = omega arith in
     ap (λ (k : ℕ). set (sets (set l i x) (suc i) xs) k v) e ∙ sets-more xs (set l i x) (suc i) v
-
--- four stores
-pub sets-four : (l : List ℕ) (i a b c d : ℕ) → set (set (set (set l i a) (i + 1) b) (i + 2) c) (i + 3) d ≡ sets l i (a ∷ b ∷ c ∷ d ∷ [])
-sets-four l i a b c d =
-    let e : i + 1 ≡ suc i = omega arith in
-    let f : i + 2 ≡ suc (suc i) = omega arith in
-    let g : i + 3 ≡ suc (suc (suc i)) = omega arith in
-    rw (e, f, g) refl

@@ -5,6 +5,7 @@ use Prim.Native.Nat.{ℕ}
 use lib.ListN.{getD}
 use Rattle.lists.specs.Lists.{below, keep, concat}
 use Rattle.rects.specs.declared.Rect.{Rect}
+use Rattle.rects.specs.Rects.{numbersOf}
 use Rattle.rects.specs.Around.{around}
 use Rattle.meeting.specs.declared.segment.Segment.{Segment}
 use Rattle.shapes.specs.declared.limits.Limits.{Limits}
@@ -22,14 +23,10 @@ freeNumbers lim s set count = keep (λ k. not (isTable lim s (set k))) (below co
 abbrev pub freeList : Limits → (ℕ → Segment) → (ℕ → List ℕ) → ℕ → List ℕ
 freeList lim s set count = concat (map set (freeNumbers lim s set count))
 
--- A rectangle as four numbers.
-abbrev pub rectNumbers : Rect → List ℕ
-rectNumbers r = r .x0 ∷ r .y0 ∷ r .x1 ∷ r .y1 ∷ []
-
 -- The places of a set's rulings in the lists.
 abbrev pub placesOf : List ℕ → List ℕ → List ℕ
 placesOf chosen set = map (λ i. getD chosen i 0) set
 
 -- The smallest rectangle around a set, as four numbers.
 abbrev pub boundsOf : List ℕ → List ℕ → List ℕ → List ℕ
-boundsOf rects chosen set = rectNumbers (around rects (placesOf chosen set))
+boundsOf rects chosen set = numbersOf (around rects (placesOf chosen set))

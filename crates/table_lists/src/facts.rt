@@ -6,7 +6,7 @@ ghost use lib.Seq.{sets};
 ghost use Rattle.rects.specs.Around.{around};
 ghost use Rattle.sets.specs.Listing.{membersOf};
 ghost use Rattle.meeting.specs.Segments.{rulingAt};
-ghost use Rattle.table_lists.specs.Answers.{rectNumbers, placesOf};
+ghost use Rattle.table_lists.specs.Answers.{placesOf};
 ghost use Rattle.meeting.specs.Steps.{Given, Inside};
 ghost use Rattle.table_lists.specs.Steps.{SetsIn, Numbers, Rooms, Chose, Bounded, Measured};
 use meeting::ends;
@@ -90,16 +90,6 @@ fn around_set(rects: &[u32], directions: &[u32], chosen: &[u32], set: &[u32]) ->
     r
 }
 
-fn put_rect(list: &mut [u32], at: usize, r: rects::Rect)
-    requires { ⌜ at + 4 ≤ length (now list) ⌝ }
-    ensures { λ _. ⌜ now (list .exit) ≡ sets (now (list .entry)) at (rectNumbers r) ⌝ }
-{
-    list[at] = r.x0;
-    list[at + 1] = r.y0;
-    list[at + 2] = r.x1;
-    list[at + 3] = r.y1;
-}
-
 // Writes the smallest rectangle around each table.
 pub fn bound(
     rects: &[u32],
@@ -118,7 +108,7 @@ pub fn bound(
     let mut t = 0;
     while t < tables {
         let set = sets::members_of(members, ends, count, numbers[t] as usize);
-        put_rect(out, 4 * t, around_set(rects, directions, chosen, set));
+        rects::put_rect(out, t, around_set(rects, directions, chosen, set));
         t += 1;
     }
 }

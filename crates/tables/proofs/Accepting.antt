@@ -5,7 +5,7 @@ use mathlib.Core.List.{List}
 use Prim.Native.Nat.{ℕ, _<_, _^_}
 use native.Mathlib.Omega.{arith}
 use lib.Dec.{eqb}
-use lib.IntN.{natAbs}
+use lib.IntN.{ℤ, pos, natAbs}
 use lib.Ieee.{Float}
 use lib.ListN.{length, take, drop}
 use lib.Seq.{take-at}
@@ -14,15 +14,28 @@ use Rattle.lists.specs.Lists.{below, written}
 use Rattle.lists.proofs.Keep.{length-below}
 use Rattle.questions.specs.Questions.{firstMissed}
 use Rattle.params.specs.declared.settings.RulingsParams.{RulingsParams}
+use Rattle.math.specs.Rounding.{roundedProduct}
+use Rattle.math.proofs.Limit.{UpTo}
 use Rattle.params.proofs.Limits.{limits, xheight-passed}
 use Rattle.params.proofs.Passed.{settings-passed}
 use Rattle.rects.specs.Rects.{count}
 use Rattle.shapes.specs.declared.limits.Limits.{Limits}
-use Rattle.shapes.specs.Limits.{limitsOf, Settled}
+use Rattle.params.specs.Settled.{Settled}
+use Rattle.shapes.specs.Limits.{limitsOf}
 use Rattle.meeting.specs.Steps.{Given}
 use Rattle.table_questions.specs.Questions.{roomForTables, roomForIndexes, tableQuestions}
 use Rattle.tables.specs.Call.{Lent, Filled, Roomy, Tables, missedBy}
 use Rattle.tables.proofs.Demand.{demand3}
+
+-- passed questions bound the limits, which are not below 0
+whole-is : {z : ℤ} {n : ℕ} → UpTo n z → z ≡ pos (natAbs z)
+whole-is U = U .is ∙ sym (ap (λ z. pos (natAbs z)) (U .is))
+
+join-is : (p : RulingsParams) (xheight : Float) → Settled p xheight → roundedProduct (p .«join_tol_xh») xheight ≡ pos (limitsOf p xheight .join)
+join-is p xheight S = whole-is (limits p xheight (settings-passed p (S .settings) .0) (xheight-passed xheight (S .xheight-passed)) .«join_tol»)
+
+line-is : (p : RulingsParams) (xheight : Float) → Settled p xheight → roundedProduct (p .«line_cluster_xh») xheight ≡ pos (limitsOf p xheight .cluster)
+line-is p xheight S = whole-is (limits p xheight (settings-passed p (S .settings) .0) (xheight-passed xheight (S .xheight-passed)) .«line_cluster»)
 
 pub join-small : (p : RulingsParams) (xheight : Float) → Settled p xheight → limitsOf p xheight .join < 2 ^ 32
 join-small p xheight S =
@@ -91,6 +104,8 @@ module _ (xheight : Float) (p : RulingsParams) (rects directions : List ℕ) {q 
         parents-kept = λ z. refl;
         work-kept = λ z. refl;
         keys-kept = λ z. refl;
+        join-limit = join-is p xheight;
+        line-limit = line-is p xheight;
         demand3 = demand3 rects directions (below (count rects)) (limitsOf p xheight);
       }
 
@@ -122,5 +137,7 @@ module _ (xheight : Float) (p : RulingsParams) (rects directions : List ℕ) {q 
         parents-kept = λ n. absurd (n zero);
         work-kept = λ n. absurd (n zero);
         keys-kept = λ n. absurd (n zero);
+        join-limit = join-is p xheight;
+        line-limit = line-is p xheight;
         demand3 = demand3 rects directions (below (count rects)) (limitsOf p xheight);
       }

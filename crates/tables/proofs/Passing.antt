@@ -21,7 +21,7 @@ use Rattle.rects.specs.Rects.{count, countFits, allInside}
 use Rattle.rects.proofs.Questions.{count-says, all-inside-says, has-numbers}
 use Rattle.table_questions.specs.Questions.{directionsFit, roomForTables, roomForIndexes, tableQuestions}
 use Rattle.meeting.specs.Steps.{Given}
-use Rattle.shapes.specs.Limits.{Settled}
+use Rattle.params.specs.Settled.{Settled}
 use Rattle.tables.specs.Call.{Lent, hasRoom, Roomy}
 
 -- six and seven tests, each of which passed

@@ -4,13 +4,16 @@ use mathlib.Core.Bool.{Bool, true, cond, not, _&&_}
 use mathlib.Core.List.{List, [], map}
 use Prim.Native.Nat.{ℕ, _*_, _≤_, _<_}
 use lib.Dec.{eqb}
+use lib.IntN.{pos}
 use lib.Ieee.{Float}
 use lib.ListN.{length, getD}
 use Rattle.lists.specs.Lists.{below, concat, written}
-use Rattle.sets.specs.Closed.{Below, Closed, Once, Listed}
+use Rattle.sets.specs.Closed.{Below, Listed, ListedWhere}
 use Rattle.sets.specs.Listing.{endsFrom}
 use Rattle.questions.specs.Questions.{firstMissed}
+use Rattle.math.specs.Rounding.{roundedProduct}
 use Rattle.params.specs.declared.settings.RulingsParams.{RulingsParams}
+use Rattle.params.specs.Settled.{Settled}
 use Rattle.rects.specs.Rects.{count}
 use Rattle.rects.specs.Around.{around, Smallest}
 use Rattle.shapes.specs.declared.limits.Limits.{Limits}
@@ -20,12 +23,6 @@ use Rattle.shapes.specs.Shapes.{isTable, rowsOf, columnsOf}
 use Rattle.table_lists.specs.Answers.{tableNumbers, freeNumbers, freeList, placesOf, boundsOf}
 use Rattle.shapes.specs.Limits.{limitsOf}
 use Rattle.table_questions.specs.Questions.{roomForTables, roomForIndexes, tableQuestions}
-
--- A listing of the closed sets that pass a test: each number below the count names one, and each is listed once.
-pub record ListedWhere (D : ℕ → Type 0) (R : ℕ → ℕ → Type 0) (test : List ℕ → Bool) (ss : List (List ℕ)) : Type 0 where
-  pub closed : (k : ℕ) → k < length ss → Closed D R (getD ss k [])
-  pub passes : (k : ℕ) → k < length ss → test (getD ss k []) ≡ true
-  pub once : (s : List ℕ) → Closed D R s → test s ≡ true → Once ss s
 
 -- What is found among the chosen rulings, given the closed sets: the answers, list by list.
 module _ (rects directions chosen : List ℕ) (lim : Limits) where
@@ -152,4 +149,7 @@ pub record Tables (xheight : Float) (p : RulingsParams) (rects directions : List
   pub parents-kept : (q ≡ 0 → ⊥) → l′ .parents ≡ l .parents
   pub work-kept : (q ≡ 0 → ⊥) → l′ .work ≡ l .work
   pub keys-kept : (q ≡ 0 → ⊥) → l′ .keys ≡ l .keys
+  -- the limits are the rounded products, not below 0
+  pub join-limit : Settled p xheight → roundedProduct (p .«join_tol_xh») xheight ≡ pos (limitsOf p xheight .join)
+  pub line-limit : Settled p xheight → roundedProduct (p .«line_cluster_xh») xheight ≡ pos (limitsOf p xheight .cluster)
   pub demand3 : Demand3 rects directions (below (count rects)) (limitsOf p xheight)

@@ -1,25 +1,34 @@
--- `rects::all_inside` meets its contract. The invariant: every rectangle that was passed is inside. Assumes nothing.
-use mathlib.Core.Path.{_≡_, sym, ap, _∙_}
-use mathlib.Core.Bool.{true}
-use Prim.Native.Nat.{ℕ, _-_, _≤_, _<_}
+-- `rects::all_inside` meets its contract. The invariant: whether every rectangle that was passed is inside. Assumes nothing.
+use mathlib.Core.Path.{_≡_, refl, sym, ap, ap₂, _∙_}
+use mathlib.Core.Bool.{Bool, true, _&&_}
+use mathlib.Core.List.{List}
+use Prim.Native.Nat.{ℕ, _+_, _-_, _≤_}
 use native.Mathlib.Omega.{arith}
-use native.Mathlib.Nat.{lt-of-lt-of-le}
-use borrow.Author.Count.{below-none, below-more}
-use borrow.Author.Tests.{not-true, not-false}
-use Rattle.lists.proofs.Every.{every-of, every-fails}
-use Rattle.rects.specs.Rects.{inside, rectAt}
+use Rattle.lists.specs.Lists.{everyBelow}
+use Rattle.lists.proofs.Every.{every-more}
+use Rattle.rects.specs.Rects.{count, inside, rectAt}
+use Rattle.rects.specs.declared.Rect.{Rect}
 use Rattle.rects.proofs.Questions.{has-numbers}
 use Rattle.rects.proofs.all_inside.Statement.{statement}
 use Rattle.rects.proofs.all_inside.Tie as tie
 
+-- nothing passed yet, and one rectangle more
+none : (q : ℕ → Bool) → true ≡ everyBelow 0 q
+unfolding everyBelow
+none q = refl
+
+more : (w h k : ℕ) (rects : List ℕ) {all t : Bool} {r : Rect} → all ≡ everyBelow k (λ j. inside w h (rectAt rects j)) → t ≡ inside w h r → r ≡ rectAt rects k
+    → all && t ≡ everyBelow (k + 1) (λ j. inside w h (rectAt rects j))
+more w h k rects e f g = ap₂ _&&_ e (f ∙ ap (inside w h) g) ∙ sym (every-more k (λ j. inside w h (rectAt rects j)))
+
 abbrev Inv-loop : tie.InvT-loop
-Inv-loop rects w h n k₀ k = (k ≤ n) × ((j : ℕ) → j < k → inside w h (rectAt rects j) ≡ true)
+Inv-loop rects w h n all₀ k₀ all k = (k ≤ n) × (all ≡ everyBelow k (λ j. inside w h (rectAt rects j)))
 
 abbrev μ-loop : tie.MeasureT-loop
-μ-loop rects w h n k₀ k = n - k
+μ-loop rects w h n all₀ k₀ all k = n - k
 
 loop-holds : tie.Need-loop-holds Inv-loop μ-loop
-loop-holds c = (omega arith, below-none _)
+loop-holds c = (omega arith, none _)
 
 rect-at-requires : tie.Need-rect-at-requires Inv-loop μ-loop
 rect-at-requires c κs = has-numbers _ _ (c .loop-test .taken)
@@ -27,24 +36,19 @@ rect-at-requires c κs = has-numbers _ _ (c .loop-test .taken)
 is-inside-requires : tie.Need-is-inside-requires Inv-loop μ-loop
 is-inside-requires c κs = tt
 
--- what was found of rectangle k
-found : (c : tie.After-is-inside Inv-loop μ-loop) → c .is-inside .result ≡ inside (c .before .before .before .before .before .args .w) (c .before .before .before .before .before .args .h) (rectAt (c .before .before .before .before .before .args .rects .now) (c .before .before .before .loop .k))
-found c = c .is-inside .ensures ∙ ap (inside _ _) (c .before .rect-at .ensures)
-
-returns : tie.Need-returns Inv-loop μ-loop
-returns c = sym (every-fails _ _ (c .before .before .before .before .loop .k) (c .before .before .before .loop-test .taken) (sym (found (c .before)) ∙ not-true _ (c .if1 .taken)))
-
 add-k : tie.Need-add-k Inv-loop μ-loop
-add-k c = omega (arith, c .before .before .before .loop-test .taken, c .before .before .before .before .before .before .good .0 .0)
+add-k c = omega (arith, c .before .before .loop-test .taken, c .before .before .before .before .before .good .0 .0)
 
 loop-less : tie.Need-loop-less Inv-loop μ-loop
-loop-less c = omega (arith, c .before .before .before .loop-test .taken)
+loop-less c = omega (arith, c .before .before .loop-test .taken)
 
 loop-again : tie.Need-loop-again Inv-loop μ-loop
-loop-again c = (omega (arith, c .before .before .before .loop-test .taken), below-more _ _ (c .before .before .before .before .loop .inv .1) (sym (found (c .before)) ∙ not-false _ (c .if1 .left)))
+loop-again c = let a = c .before .before .before .before .before .args in (omega (arith, c .before .before .loop-test .taken), more (a .w) (a .h) (c .before .before .before .loop .k) (a .rects .now) (c .before .before .before .loop .inv .1) (c .is-inside .ensures) (c .before .rect-at .ensures))
 
-returns-2 : tie.Need-returns-2 Inv-loop μ-loop
-returns-2 c = sym (every-of _ _ (λ k l. c .before .loop .inv .1 k (lt-of-lt-of-le l (c .loop-test .left))))
+returns : tie.Need-returns Inv-loop μ-loop
+returns c =
+    let end : c .before .loop .k ≡ count (c .before .before .before .args .rects .now) = omega (arith, c .before .loop .inv .0, c .loop-test .left) in
+    rw end at (c .before .loop .inv .1)
 
 pub all-inside-spec : {M : Type 1} → statement M
-all-inside-spec = tie.close (tie.spec Inv-loop μ-loop loop-holds rect-at-requires is-inside-requires returns add-k loop-less loop-again returns-2)
+all-inside-spec = tie.close (tie.spec Inv-loop μ-loop loop-holds rect-at-requires is-inside-requires add-k loop-less loop-again returns)

@@ -8,11 +8,11 @@ use lib.Ieee.{Float}
 use lib.ListN.{length, set, length-set}
 use lib.Seq.{sets, length-sets}
 use Rattle.lists.specs.Lists.{In, below, concat, written}
-use Rattle.rects.specs.Rects.{count}
+use Rattle.rects.specs.Rects.{count, numbersOf}
 use Rattle.rects.specs.Around.{around}
 use Rattle.sets.specs.Listing.{membersOf}
 use Rattle.segments.specs.declared.ruling.Ruling.{Ruling}
-use Rattle.segments.specs.Rulings.{directionOf, directionNumber, rulingOf, numbersOf}
+use Rattle.segments.specs.Rulings.{directionOf, directionNumber, rulingOf}
 use Rattle.segments.specs.Steps.{Picture, Parts, partsOf, Described, RoomForRulings}
 use Rattle.segments.proofs.Runs.{total-four, value-written, run-written}
 use Rattle.segments.proofs.Parts.{map-map}

@@ -9,9 +9,10 @@ use lib.Seq.{sets, length-take-le}
 use Rattle.lists.specs.Lists.{written}
 use Rattle.lists.proofs.Written.{written-run}
 use Rattle.rects.specs.declared.Rect.{Rect}
+use Rattle.rects.specs.Rects.{numbersOf}
 use Rattle.rects.specs.Around.{around}
 use Rattle.sets.specs.Listing.{membersOf}
-use Rattle.table_lists.specs.Answers.{rectNumbers, placesOf, boundsOf}
+use Rattle.table_lists.specs.Answers.{placesOf, boundsOf}
 use Rattle.table_lists.specs.Steps.{Bounded}
 use Rattle.table_lists.proofs.Strung.{strung, strung-one, strung-size}
 use Rattle.table_lists.proofs.Passes.{set-read, taken-more}
@@ -28,7 +29,7 @@ module _ (rects chosen : List ℕ) (f : ℕ → List ℕ) (numbers out : List �
     content : out′ ≡ written (strung four (take t numbers)) out
 
   turn : {tables t : ℕ} {out′ out″ xs : List ℕ} {r : Rect} → Turns tables out′ t → t < tables → tables ≤ length numbers → 4 * tables ≤ length out
-      → length out″ ≡ length out′ → out″ ≡ sets out′ (4 * t) (rectNumbers r) → r ≡ around rects (placesOf chosen xs) → xs ≡ f (getD numbers t 0)
+      → length out″ ≡ length out′ → out″ ≡ sets out′ (4 * t) (numbersOf r) → r ≡ around rects (placesOf chosen xs) → xs ≡ f (getD numbers t 0)
       → Turns tables out″ (t + 1)
   turn {t = t} {out′} {r = r} T h l room long e er ex =
       let size : length (strung four (take t numbers)) ≡ 4 * t = strung-size four 4 (λ k. refl) (take t numbers) ∙ ap (λ (k : ℕ). 4 * k) (length-take-le t numbers (omega arith)) in
@@ -36,8 +37,8 @@ module _ (rects chosen : List ℕ) (f : ℕ → List ℕ) (numbers out : List �
         up-to = omega arith;
         long = long ∙ T .long;
         content =
-            e ∙ ap₂ (λ (w : List ℕ) (i : ℕ). sets w i (rectNumbers r)) (T .content) (sym size)
-            ∙ ap (sets (written (strung four (take t numbers)) out) (length (strung four (take t numbers)))) (ap rectNumbers er ∙ ap (boundsOf rects chosen) ex)
+            e ∙ ap₂ (λ (w : List ℕ) (i : ℕ). sets w i (numbersOf r)) (T .content) (sym size)
+            ∙ ap (sets (written (strung four (take t numbers)) out) (length (strung four (take t numbers)))) (ap numbersOf er ∙ ap (boundsOf rects chosen) ex)
             ∙ written-run (four (getD numbers t 0)) (strung four (take t numbers)) out (at-end size)
             ∙ ap (λ (w : List ℕ). written w out) (sym (strung-one four (take t numbers) (getD numbers t 0)) ∙ ap (strung four) (sym (taken-more numbers t (omega arith))));
       }
@@ -72,9 +73,6 @@ cast-members-of c = omega (arith, c .shared-slice-known7 .given (c .before .befo
 members-of-requires : tie.Need-members-of-requires Inv-loop μ-loop
 members-of-requires c κs = tt
 
-mul-put-rect : tie.Need-mul-put-rect Inv-loop μ-loop
-mul-put-rect c = omega (arith, c .before .before .before .loop-test .taken, c .before .before .before .before .before .before .before .before .before .before .before .before .pre .3)
-
 around-set-requires : tie.Need-around-set-requires Inv-loop μ-loop
 around-set-requires c κs = let r = set-read (c .before .before .before .before .before .before .before .before .before .before .before .before .pre .1) (c .before .before .before .before .before .before .before .before .before .before .before .before .pre .2 .low (c .before .before .before .before .loop .t) (c .before .before .before .loop-test .taken)) (c .before .members-of .ensures) in
     (c .before .before .before .before .before .before .before .before .before .before .before .before .pre .0, r .0, r .1)
@@ -108,7 +106,6 @@ bound-spec =
     shared-slice-read-members-of
     cast-members-of
     members-of-requires
-    mul-put-rect
     around-set-requires
     put-rect-requires
     add-t

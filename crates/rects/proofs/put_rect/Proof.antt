@@ -1,11 +1,11 @@
--- `write::put_rect` meets its contract: four stores, one after the other. Assumes nothing.
+-- `rects::put_rect` meets its contract: four stores, one after the other. Assumes nothing.
 use Prim.Native.Nat.{_*_}
 use native.Mathlib.Omega.{arith}
 use borrow.Author.Needs.{needs}
 use lib.ListN.{length-set}
-use Rattle.segments.proofs.Runs.{four}
-use Rattle.segments.proofs.write.put_rect.Statement.{statement}
-use Rattle.segments.proofs.write.put_rect.Tie as tie
+use Rattle.rects.proofs.Stores.{four}
+use Rattle.rects.proofs.put_rect.Statement.{statement}
+use Rattle.rects.proofs.put_rect.Tie as tie
 
 mul-at : tie.Need-mul-at
 mul-at c = search needs

@@ -1,0 +1,12 @@
+-- Settings and an x-height that passed their questions.
+use mathlib.Core.Path.{_≡_}
+use lib.Ieee.{Float}
+use Rattle.questions.specs.Questions.{firstMissed}
+use Rattle.params.specs.declared.settings.RulingsParams.{RulingsParams}
+use Rattle.params.specs.Scan.{xheightQuestions}
+use Rattle.params.specs.Settings.{settingsQuestions}
+
+-- The settings and the x-height miss no question.
+pub record Settled (p : RulingsParams) (xheight : Float) : Type 0 where
+  pub settings : firstMissed (settingsQuestions p) ≡ 0
+  pub xheight-passed : firstMissed (xheightQuestions xheight) ≡ 0
