@@ -6,12 +6,6 @@ ghost use Rattle.boxes.specs.Tests.{edgeCoverage};
 ghost use Rattle.boxes.specs.Bands.{topBand, bottomBand, leftBand, rightBand, lineShare};
 use rects::Rect;
 
-fn least(a: u32, b: u32) -> u32
-    ensures { λ r. ⌜ r ≡ Prim.Native.Nat.min a b ⌝ }
-{
-    if a < b { a } else { b }
-}
-
 // a less k, and not below the floor.
 fn less(a: u32, k: u32, floor: u32) -> u32
     requires { ⌜ floor ≤ a ⌝ }
@@ -28,7 +22,7 @@ fn top_band(f: Rect, tol: u32) -> Rect
         x0: f.x0,
         y0: f.y0,
         x1: f.x1,
-        y1: least(f.y0 + tol, f.y1),
+        y1: rects::least(f.y0 + tol, f.y1),
     }
 }
 
@@ -51,7 +45,7 @@ fn left_band(f: Rect, tol: u32) -> Rect
     Rect {
         x0: f.x0,
         y0: f.y0,
-        x1: least(f.x0 + tol, f.x1),
+        x1: rects::least(f.x0 + tol, f.x1),
         y1: f.y1,
     }
 }

@@ -18,17 +18,11 @@ fn distance(a: u32, b: u32) -> u32
     if a < b { b - a } else { a - b }
 }
 
-fn larger(a: u32, b: u32) -> u32
-    ensures { λ r. ⌜ r ≡ Prim.Native.Nat.max a b ⌝ }
-{
-    if a < b { b } else { a }
-}
-
 // Do two widths differ by at most 0.3 * the larger? Widths are whole, so their difference is exact.
 fn similar(a: u32, b: u32) -> bool
     ensures { λ r. ⌜ r ≡ similar a b ⌝ }
 {
-    distance(a, b) as f64 <= 0.3 * larger(a, b) as f64
+    distance(a, b) as f64 <= 0.3 * rects::greatest(a, b) as f64
 }
 
 // What is compared of two boxes: the width alone.

@@ -78,12 +78,6 @@ pub fn last_line_end(mask: &[u8], w: usize, r: Rect, rows: bool, limit: f64) -> 
     0
 }
 
-fn greater(a: u32, b: u32) -> u32
-    ensures { λ r. ⌜ r ≡ Prim.Native.Nat.max a b ⌝ }
-{
-    if a < b { b } else { a }
-}
-
 // The longest unbroken run of lines that have ink.
 pub fn longest(mask: &[u8], w: usize, r: Rect, rows: bool) -> u32
     requires { ⌜ Readable (now mask) w r ⌝ }
@@ -95,7 +89,7 @@ pub fn longest(mask: &[u8], w: usize, r: Rect, rows: bool) -> u32
     let mut k = 0;
     while k < n {
         run = longer_run(run, line_has_ink(mask, w, r, rows, k));
-        best = greater(best, run);
+        best = rects::greatest(best, run);
         k += 1;
     }
     best

@@ -53,13 +53,13 @@ pub fn union_rect(a: Rect, b: Rect) -> Rect
     }
 }
 
-fn least(a: u32, b: u32) -> u32
+pub fn least(a: u32, b: u32) -> u32
     ensures { λ r. ⌜ r ≡ Prim.Native.Nat.min a b ⌝ }
 {
     if a < b { a } else { b }
 }
 
-fn greatest(a: u32, b: u32) -> u32
+pub fn greatest(a: u32, b: u32) -> u32
     ensures { λ r. ⌜ r ≡ Prim.Native.Nat.max a b ⌝ }
 {
     if a < b { b } else { a }

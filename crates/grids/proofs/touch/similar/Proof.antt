@@ -1,4 +1,4 @@
--- `touch::similar` meets its contract: the difference of whole numbers and the larger of them are exact floats.
+-- `touch::similar` meets its contract: the difference of whole numbers and the greatest of them are exact floats.
 use native.Mathlib.Omega.{arith}
 use borrow.Author.Needs.{needs}
 use Rattle.grids.proofs.Similar.{found-similar}
@@ -11,14 +11,14 @@ distance-requires c κs = search needs
 int-to-float-result : tie.Need-int-to-float-result
 int-to-float-result c = search needs
 
-larger-requires : tie.Need-larger-requires
-larger-requires c κs = search needs
+greatest-requires : tie.Need-greatest-requires
+greatest-requires c κs = search needs
 
 int-to-float-result-2 : tie.Need-int-to-float-result-2
 int-to-float-result-2 c = search needs
 
 returns : tie.Need-returns
-returns c = found-similar (c .before .before .before .before .args .a) (c .before .before .before .before .args .b) (omega (arith, c .before .before .before .before .fits)) (omega (arith, c .before .before .before .before .fits)) (c .before .before .before .distance .ensures) (c .before .larger .ensures)
+returns c = found-similar (c .before .before .before .before .args .a) (c .before .before .before .before .args .b) (omega (arith, c .before .before .before .before .fits)) (omega (arith, c .before .before .before .before .fits)) (c .before .before .before .distance .ensures) (c .before .greatest .ensures)
 
 pub similar-spec : {M : Type 1} → statement M
-similar-spec = tie.close (tie.spec distance-requires int-to-float-result larger-requires int-to-float-result-2 returns)
+similar-spec = tie.close (tie.spec distance-requires int-to-float-result greatest-requires int-to-float-result-2 returns)

@@ -40,8 +40,8 @@ longer-run-requires c κs =
     let a = c .before .before .before .before .before .args in
     omega (arith, c .before .before .loop .inv .1, run-le (test (a .mask .now) (a .w) (a .r) (a .rows)) (c .before .before .loop .k), c .before .loop-test .taken, c .before .before .before .lines-of .ensures, lines-le (a .mask .now) (a .w) (a .r) (c .before .before .before .before .before .pre) (a .rows))
 
-greater-requires : tie.Need-greater-requires Inv-loop μ-loop
-greater-requires c κs = tt
+greatest-requires : tie.Need-greatest-requires Inv-loop μ-loop
+greatest-requires c κs = tt
 
 add-k : tie.Need-add-k Inv-loop μ-loop
 add-k c = omega arith
@@ -55,7 +55,7 @@ loop-again c =
     let q = test (a .mask .now) (a .w) (a .r) (a .rows) in
     let k = c .before .before .before .before .loop .k in
     let r = run-next q k (c .before .before .before .before .loop .inv .1) (c .before .longer-run .ensures ∙ ap (λ (b : Bool). cond b (suc (c .before .before .before .before .loop .run)) 0) (c .before .before .line-has-ink .ensures)) in
-    (omega arith, r, longest-next q k (c .before .before .before .before .loop .inv .2) r (c .greater .ensures))
+    (omega arith, r, longest-next q k (c .before .before .before .before .loop .inv .2) r (c .greatest .ensures))
 
 returns : tie.Need-returns Inv-loop μ-loop
 returns c =
@@ -74,7 +74,7 @@ longest-spec =
     loop-holds
     line-has-ink-requires
     longer-run-requires
-    greater-requires
+    greatest-requires
     add-k
     loop-less
     loop-again
