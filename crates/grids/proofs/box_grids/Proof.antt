@@ -13,11 +13,15 @@ lent s = record { members = s .args .members .now; ends = s .args .ends .now; re
 
 -- the number that the guard gave
 number-is : (c : tie.After-missed) → c .missed .result ≡ missedBy (c .before .before .before .before .before .before .before .before .before .before .args .xheight) (c .before .before .before .before .before .before .before .before .before .before .args .p) (c .before .before .before .before .before .before .before .before .before .before .args .rects .now) (lent (c .before .before .before .before .before .before .before .before .before .before))
-number-is c = asked (c .before .before .before .before .before .before .before .before .before .before .args .xheight) (c .before .before .before .before .before .before .before .before .before .before .args .p) (c .before .before .before .before .before .before .before .before .before .before .args .rects .now) (lent (c .before .before .before .before .before .before .before .before .before .before)) (c .missed .ensures) (c .before .room-for-boxes .ensures)
+number-is c =
+    let start = c .before .before .before .before .before .before .before .before .before .before in
+    asked (start .args .xheight) (start .args .p) (start .args .rects .now) (lent (c .before .before .before .before .before .before .before .before .before .before)) (c .missed .ensures) (c .before .room-for-boxes .ensures)
 
 -- what is known once it is 0
 known : (c : tie.Else1) → Passed (c .before .before .before .before .before .before .before .before .before .before .before .args .xheight) (c .before .before .before .before .before .before .before .before .before .before .before .args .p) (c .before .before .before .before .before .before .before .before .before .before .before .args .rects .now) (lent (c .before .before .before .before .before .before .before .before .before .before .before))
-known c = passed (c .before .before .before .before .before .before .before .before .before .before .before .args .xheight) (c .before .before .before .before .before .before .before .before .before .before .before .args .p) (c .before .before .before .before .before .before .before .before .before .before .before .args .rects .now) (lent (c .before .before .before .before .before .before .before .before .before .before .before)) (sym (number-is (c .before)) ∙ c .if1 .left)
+known c =
+    let start = c .before .before .before .before .before .before .before .before .before .before .before in
+    passed (start .args .xheight) (start .args .p) (start .args .rects .now) (lent (c .before .before .before .before .before .before .before .before .before .before .before)) (sym (number-is (c .before)) ∙ c .if1 .left)
 
 room-for-boxes-requires : tie.Need-room-for-boxes-requires
 room-for-boxes-requires c κs = search needs
@@ -26,14 +30,17 @@ missed-requires : tie.Need-missed-requires
 missed-requires c κs = search needs
 
 returns : tie.Need-returns
-returns c = refused (c .before .before .before .before .before .before .before .before .before .before .before .args .xheight) (c .before .before .before .before .before .before .before .before .before .before .before .args .p) (c .before .before .before .before .before .before .before .before .before .before .before .args .rects .now) (lent (c .before .before .before .before .before .before .before .before .before .before .before)) (number-is (c .before)) (c .if1 .taken)
+returns c =
+    let start = c .before .before .before .before .before .before .before .before .before .before .before in
+    refused (start .args .xheight) (start .args .p) (start .args .rects .now) (lent (c .before .before .before .before .before .before .before .before .before .before .before)) (number-is (c .before)) (c .if1 .taken)
 
 limit-requires : tie.Need-limit-requires
 limit-requires c κs = known (c) .settled
 
 find-requires : tie.Need-find-requires
 find-requires c κs =
-    let K = known (c .before .before .before .before .before .before .before .before) in (limit-small (c .before .before .before .before .before .before .before .before .before .before .before .before .before .before .before .before .before .before .before .args .p) (c .before .before .before .before .before .before .before .before .before .before .before .before .before .before .before .before .before .before .before .args .xheight) (K .settled) (c .before .before .before .before .before .before .before .limit .ensures), K .given, K .roomy)
+    let start = c .before .before .before .before .before .before .before .before .before .before .before .before .before .before .before .before .before .before .before in
+    let K = known (c .before .before .before .before .before .before .before .before) in (limit-small (start .args .p) (start .args .xheight) (K .settled) (c .before .before .before .before .before .before .before .limit .ensures), K .given, K .roomy)
 
 same-length : tie.Need-same-length
 same-length c = c .before .before .before .before .before .before .before .before .before .before .before .before .before .before .find .kept .1 .1 .1 .0
@@ -58,7 +65,8 @@ same-length-7 c = c .before .before .before .before .before .before .before .bef
 
 returns-2 : tie.Need-returns-2
 returns-2 c =
-    accepted (c .before .before .before .before .before .before .before .before .before .before .before .before .before .before .before .before .before .before .before .before .before .before .before .before .before .before .before .before .before .before .before .before .before .before .args .xheight) (c .before .before .before .before .before .before .before .before .before .before .before .before .before .before .before .before .before .before .before .before .before .before .before .before .before .before .before .before .before .before .before .before .before .before .args .p) (c .before .before .before .before .before .before .before .before .before .before .before .before .before .before .before .before .before .before .before .before .before .before .before .before .before .before .before .before .before .before .before .before .before .before .args .rects .now) (lent (c .before .before .before .before .before .before .before .before .before .before .before .before .before .before .before .before .before .before .before .before .before .before .before .before .before .before .before .before .before .before .before .before .before .before)) (number-is (c .before .before .before .before .before .before .before .before .before .before .before .before .before .before .before .before .before .before .before .before .before .before .before .before)) _ (c .before .before .before .before .before .before .before .before .before .before .before .before .before .before .before .before .before .before .before .before .before .before .before .if1 .left) (c .before .before .before .before .before .before .before .before .before .before .before .before .before .before .before .before .before .before .before .before .before .before .limit .ensures) (c .before .before .before .before .before .before .before .before .before .before .before .before .before .before .find .ensures)
+    let start = c .before .before .before .before .before .before .before .before .before .before .before .before .before .before .before .before .before .before .before .before .before .before .before .before .before .before .before .before .before .before .before .before .before .before in
+    accepted (start .args .xheight) (start .args .p) (start .args .rects .now) (lent (c .before .before .before .before .before .before .before .before .before .before .before .before .before .before .before .before .before .before .before .before .before .before .before .before .before .before .before .before .before .before .before .before .before .before)) (number-is (c .before .before .before .before .before .before .before .before .before .before .before .before .before .before .before .before .before .before .before .before .before .before .before .before)) _ (c .before .before .before .before .before .before .before .before .before .before .before .before .before .before .before .before .before .before .before .before .before .before .before .if1 .left) (c .before .before .before .before .before .before .before .before .before .before .before .before .before .before .before .before .before .before .before .before .before .before .limit .ensures) (c .before .before .before .before .before .before .before .before .before .before .before .before .before .before .find .ensures)
 
 pub box-grids-spec : {M : Type 1} → statement M
 box-grids-spec =

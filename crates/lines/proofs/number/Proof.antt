@@ -76,13 +76,17 @@ abbrev μ-loop : tie.MeasureT-loop
 μ-loop positions order limit numbers₀ n last₀ line₀ i₀ numbers last line i = n - i
 
 returns : tie.Need-returns Inv-loop μ-loop
-returns c = none (c .before .before .before .before .args .positions .now) (c .before .before .before .before .args .limit) (c .before .before .before .before .args .numbers .now) (c .if1 .taken)
+returns c =
+    let start = c .before .before .before .before in
+    none (start .args .positions .now) (start .args .limit) (start .args .numbers .now) (c .if1 .taken)
 
 sorted-at-requires : tie.Need-sorted-at-requires Inv-loop μ-loop
 sorted-at-requires c κs = (c .before .before .before .before .pre .1, omega arith)
 
 loop-holds : tie.Need-loop-holds Inv-loop μ-loop
-loop-holds c = begun (c .before .before .before .before .before .args .positions .now) (c .before .before .before .before .before .args .limit) (c .before .before .before .before .before .args .numbers .now) (c .sorted-at .ensures)
+loop-holds c =
+    let start = c .before .before .before .before .before in
+    begun (start .args .positions .now) (start .args .limit) (start .args .numbers .now) (c .sorted-at .ensures)
 
 sorted-at-requires-2 : tie.Need-sorted-at-requires-2 Inv-loop μ-loop
 sorted-at-requires-2 c κs = (c .before .before .before .before .before .before .before .pre .1, c .loop-test .taken)
@@ -92,8 +96,9 @@ exceeds-requires c κs = search needs
 
 next-line-requires : tie.Need-next-line-requires Inv-loop μ-loop
 next-line-requires c κs =
-    let low = line-fits (c .before .before .before .before .before .before .before .before .before .args .positions .now) (c .before .before .before .before .before .before .before .before .before .args .limit) (c .before .before .before .before .before .before .before .before .before .args .numbers .now) (c .before .before .before .loop .inv) in
-    small (c .before .before .before .loop .i) low (c .before .before .loop-test .taken) (c .before .before .before .before .before .before .before .before .before .pre .0 .small)
+    let start = c .before .before .before .before .before .before .before .before .before in
+    let low = line-fits (start .args .positions .now) (start .args .limit) (start .args .numbers .now) (c .before .before .before .loop .inv) in
+    small (c .before .before .before .loop .i) low (c .before .before .loop-test .taken) (start .pre .0 .small)
 
 mul-numbers : tie.Need-mul-numbers Inv-loop μ-loop
 mul-numbers c = omega (arith, c .before .before .before .loop-test .taken, c .before .before .before .before .before .before .before .before .before .before .pre .0 .small)
@@ -108,25 +113,31 @@ loop-less : tie.Need-loop-less Inv-loop μ-loop
 loop-less c = omega (arith, c .before .before .before .loop-test .taken)
 
 loop-again : tie.Need-loop-again Inv-loop μ-loop
-loop-again c = turn (c .before .before .before .before .before .before .before .before .before .before .args .positions .now) (c .before .before .before .before .before .before .before .before .before .before .args .limit) (c .before .before .before .before .before .before .before .before .before .before .args .numbers .now) (c .before .before .before .before .loop .inv) (c .before .before .before .loop-test .taken) (c .before .before .before .before .before .before .before .before .before .before .pre .0 .numbers) (c .before .before .sorted-at2 .ensures) (c .before .exceeds .ensures) (c .next-line .ensures)
+loop-again c =
+    let start = c .before .before .before .before .before .before .before .before .before .before in
+    turn (start .args .positions .now) (start .args .limit) (start .args .numbers .now) (c .before .before .before .before .loop .inv) (c .before .before .before .loop-test .taken) (start .pre .0 .numbers) (c .before .before .sorted-at2 .ensures) (c .before .exceeds .ensures) (c .next-line .ensures)
 
 cast-result : tie.Need-cast-result Inv-loop μ-loop
 cast-result c =
-    let low = line-fits (c .before .before .before .before .before .before .before .args .positions .now) (c .before .before .before .before .before .before .before .args .limit) (c .before .before .before .before .before .before .before .args .numbers .now) (c .before .loop .inv) in
-    let few = at-most (c .before .loop .i) low (c .before .loop .inv .up-to) (c .before .before .before .before .before .before .before .pre .0 .small) in
+    let start = c .before .before .before .before .before .before .before in
+    let low = line-fits (start .args .positions .now) (start .args .limit) (start .args .numbers .now) (c .before .loop .inv) in
+    let few = at-most (c .before .loop .i) low (c .before .loop .inv .up-to) (start .pre .0 .small) in
     omega (arith, few)
 
 add-result : tie.Need-add-result Inv-loop μ-loop
 add-result c =
-    let low = line-fits (c .before .before .before .before .before .before .before .args .positions .now) (c .before .before .before .before .before .before .before .args .limit) (c .before .before .before .before .before .before .before .args .numbers .now) (c .before .loop .inv) in
-    let few = at-most (c .before .loop .i) low (c .before .loop .inv .up-to) (c .before .before .before .before .before .before .before .pre .0 .small) in
+    let start = c .before .before .before .before .before .before .before in
+    let low = line-fits (start .args .positions .now) (start .args .limit) (start .args .numbers .now) (c .before .loop .inv) in
+    let few = at-most (c .before .loop .i) low (c .before .loop .inv .up-to) (start .pre .0 .small) in
     omega (arith, few)
 
 same-length : tie.Need-same-length Inv-loop μ-loop
 same-length c = c .before .loop .inv .long
 
 returns-2 : tie.Need-returns-2 Inv-loop μ-loop
-returns-2 c = done (c .before .before .before .before .before .before .before .args .positions .now) (c .before .before .before .before .before .before .before .args .limit) (c .before .before .before .before .before .before .before .args .numbers .now) (c .before .loop .inv) refl (c .before .before .before .if1 .left) (c .loop-test .left)
+returns-2 c =
+    let start = c .before .before .before .before .before .before .before in
+    done (start .args .positions .now) (start .args .limit) (start .args .numbers .now) (c .before .loop .inv) refl (c .before .before .before .if1 .left) (c .loop-test .left)
 
 pub number-spec : {M : Type 1} → statement M
 number-spec =

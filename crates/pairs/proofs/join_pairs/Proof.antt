@@ -49,7 +49,9 @@ mul-a : tie.Need-mul-a Inv-loop μ-loop
 mul-a c = let h = c .loop-test .taken in omega (arith, c .before .before .before .before .before .before .before .before .good .0 .0)
 
 mul-a-2 : tie.Need-mul-a-2 Inv-loop μ-loop
-mul-a-2 c = scaled-fits (2 * c .before .loop .k) (length (c .before .before .before .before .before .before .before .before .args .pairs .now)) 4 (first _ _ (c .loop-test .taken)) (c .before .before .before .before .before .before .before .before .good .0 .1)
+mul-a-2 c =
+    let start = c .before .before .before .before .before .before .before .before in
+    scaled-fits (2 * c .before .loop .k) (length (start .args .pairs .now)) 4 (first _ _ (c .loop-test .taken)) (start .good .0 .1)
 
 shared-slice-read-a : tie.Need-shared-slice-read-a Inv-loop μ-loop
 shared-slice-read-a c = first _ _ (c .before .loop-test .taken)
@@ -61,10 +63,14 @@ mul-b : tie.Need-mul-b Inv-loop μ-loop
 mul-b c = let h = c .before .loop-test .taken in omega (arith, c .before .before .before .before .before .before .before .before .before .good .0 .0)
 
 add-b : tie.Need-add-b Inv-loop μ-loop
-add-b c = let h = second (length (c .before .before .before .before .before .before .before .before .before .args .pairs .now)) (c .before .before .loop .k) (c .before .loop-test .taken) in omega (arith, c .before .before .before .before .before .before .before .before .before .good .0 .0)
+add-b c =
+    let start = c .before .before .before .before .before .before .before .before .before in
+    let h = second (length (start .args .pairs .now)) (c .before .before .loop .k) (c .before .loop-test .taken) in omega (arith, start .good .0 .0)
 
 mul-b-2 : tie.Need-mul-b-2 Inv-loop μ-loop
-mul-b-2 c = scaled-fits (2 * c .before .before .loop .k + 1) (length (c .before .before .before .before .before .before .before .before .before .args .pairs .now)) 4 (second _ _ (c .before .loop-test .taken)) (c .before .before .before .before .before .before .before .before .before .good .0 .1)
+mul-b-2 c =
+    let start = c .before .before .before .before .before .before .before .before .before in
+    scaled-fits (2 * c .before .before .loop .k + 1) (length (start .args .pairs .now)) 4 (second _ _ (c .before .loop-test .taken)) (start .good .0 .1)
 
 shared-slice-read-b : tie.Need-shared-slice-read-b Inv-loop μ-loop
 shared-slice-read-b c = second _ _ (c .before .before .loop-test .taken)

@@ -72,13 +72,17 @@ sub-t17 : tie.Need-sub-t17
 sub-t17 c = omega (arith, columns (c .before .before))
 
 add-t18 : tie.Need-add-t18
-add-t18 c = omega (arith, columns (c .before .before .before), c .before .before .before .before .before .before .before .before .before .before .before .before .before .before .pre .right, c .before .before .before .before .before .before .before .before .before .before .before .before .before .before .pre .narrow, c .before .before .before .before .before .before .before .before .before .before .before .before .before .before .pre .wide)
+add-t18 c =
+    let start = c .before .before .before .before .before .before .before .before .before .before .before .before .before .before in
+    omega (arith, columns (c .before .before .before), start .pre .right, start .pre .narrow, start .pre .wide)
 
 sub-t19 : tie.Need-sub-t19
 sub-t19 c = omega (arith, rows (c .before .before .before))
 
 add-t20 : tie.Need-add-t20
-add-t20 c = omega (arith, rows (c .before .before .before .before), c .before .before .before .before .before .before .before .before .before .before .before .before .before .before .before .pre .low, c .before .before .before .before .before .before .before .before .before .before .before .before .before .before .before .pre .high)
+add-t20 c =
+    let start = c .before .before .before .before .before .before .before .before .before .before .before .before .before .before .before in
+    omega (arith, rows (c .before .before .before .before), start .pre .low, start .pre .high)
 
 returns-3 : tie.Need-returns-3
 returns-3 c =

@@ -58,7 +58,9 @@ missed-by-scan-requires : tie.Need-missed-by-scan-requires
 missed-by-scan-requires c κs = search needs
 
 raster-fits-requires : tie.Need-raster-fits-requires
-raster-fits-requires c κs = sides-say (c .before .before .before .before .args .w) (c .before .before .before .before .args .h) (sym (c .before .before .levelled-sides-fit .ensures) ∙ not-false (c .before .before .levelled-sides-fit .result) (c .before .if1 .left))
+raster-fits-requires c κs =
+    let start = c .before .before .before .before in
+    sides-say (start .args .w) (start .args .h) (sym (c .before .before .levelled-sides-fit .ensures) ∙ not-false (c .before .before .levelled-sides-fit .result) (c .before .if1 .left))
 
 count-fits-requires : tie.Need-count-fits-requires
 count-fits-requires c κs = search needs

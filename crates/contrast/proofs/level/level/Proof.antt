@@ -42,9 +42,10 @@ next counts n half v at-least p l few down xs e t =
 
 within-2 : (c : tie.After-shared-slice-known2 Inv-loop μ-loop) → (c .before .before .loop .at-least < 2 ^ 32) × (getD (c .before .before .before .before .args .counts .now) (c .before .before .loop .v - 1) 0 < 2 ^ 32)
 within-2 c =
-    let s = c .before .before .before .before .pre .2 in
-    let small = c .before .before .before .before .pre .0 in
-    let counts = c .before .before .before .before .args .counts .now in
+    let start = c .before .before .before .before in
+    let s = start .pre .2 in
+    let small = start .pre .0 in
+    let counts = start .args .counts .now in
     (omega arith, omega (arith, count-le (s .0) counts (s .2) (c .before .before .loop .v - 1) (omega arith), s .1))
 
 sub-half : tie.Need-sub-half Inv-loop μ-loop

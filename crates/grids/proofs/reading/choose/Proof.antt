@@ -52,13 +52,19 @@ cast-numbers : tie.Need-cast-numbers Inv-loop μ-loop
 cast-numbers c = omega (arith, c .before .before .loop-test .taken, c .before .before .before .before .before .before .before .pre .0)
 
 mul-numbers : tie.Need-mul-numbers Inv-loop μ-loop
-mul-numbers c = omega (arith, low (c .before .before .before .before .before .before .before .args .least) (membersOf (c .before .before .before .before .before .before .before .args .members .now) (c .before .before .before .before .before .before .before .args .ends .now) (c .before .before .before .before .before .before .before .args .count)) (c .before .before .before .loop .inv) (c .before .before .loop-test .taken), c .before .before .loop-test .taken, c .before .before .before .before .before .before .before .pre .0)
+mul-numbers c =
+    let start = c .before .before .before .before .before .before .before in
+    omega (arith, low (start .args .least) (membersOf (start .args .members .now) (start .args .ends .now) (start .args .count)) (c .before .before .before .loop .inv) (c .before .before .loop-test .taken), c .before .before .loop-test .taken, start .pre .0)
 
 slice-write-numbers : tie.Need-slice-write-numbers Inv-loop μ-loop
-slice-write-numbers c = omega (arith, low (c .before .before .before .before .before .before .before .args .least) (membersOf (c .before .before .before .before .before .before .before .args .members .now) (c .before .before .before .before .before .before .before .args .ends .now) (c .before .before .before .before .before .before .before .args .count)) (c .before .before .before .loop .inv) (c .before .before .loop-test .taken), c .before .before .loop-test .taken, c .before .before .before .before .before .before .before .pre .1, c .before .before .before .loop .inv .long)
+slice-write-numbers c =
+    let start = c .before .before .before .before .before .before .before in
+    omega (arith, low (start .args .least) (membersOf (start .args .members .now) (start .args .ends .now) (start .args .count)) (c .before .before .before .loop .inv) (c .before .before .loop-test .taken), c .before .before .loop-test .taken, start .pre .1, c .before .before .before .loop .inv .long)
 
 add-grids : tie.Need-add-grids Inv-loop μ-loop
-add-grids c = omega (arith, low (c .before .before .before .before .before .before .before .args .least) (membersOf (c .before .before .before .before .before .before .before .args .members .now) (c .before .before .before .before .before .before .before .args .ends .now) (c .before .before .before .before .before .before .before .args .count)) (c .before .before .before .loop .inv) (c .before .before .loop-test .taken), c .before .before .loop-test .taken, c .before .before .before .before .before .before .before .pre .0)
+add-grids c =
+    let start = c .before .before .before .before .before .before .before in
+    omega (arith, low (start .args .least) (membersOf (start .args .members .now) (start .args .ends .now) (start .args .count)) (c .before .before .before .loop .inv) (c .before .before .loop-test .taken), c .before .before .loop-test .taken, start .pre .0)
 
 add-k : tie.Need-add-k Inv-loop μ-loop
 add-k c = omega (arith, c .before .before .loop-test .taken, c .before .before .before .before .before .before .before .pre .0)
@@ -68,9 +74,10 @@ loop-less c = omega (arith, c .before .before .loop-test .taken)
 
 loop-again : tie.Need-loop-again Inv-loop μ-loop
 loop-again c =
-    let f = membersOf (c .before .before .before .before .before .before .before .args .members .now) (c .before .before .before .before .before .before .before .args .ends .now) (c .before .before .before .before .before .before .before .args .count) in
-    ⊎-elim (λ w. moved (grid (c .before .before .before .before .before .before .before .args .least) f (c .before .before .before .loop .inv) (c .before .before .loop-test .taken) (c .before .before .before .before .before .before .before .pre .1) (c .before .members-of .ensures) (w .0 .taken)) (w .1) (w .2))
-    (λ w. moved (past (c .before .before .before .before .before .before .before .args .least) f (c .before .before .before .loop .inv) (c .before .before .loop-test .taken) (c .before .before .before .before .before .before .before .pre .1) (c .before .members-of .ensures) (w .0 .left)) (w .1) (w .2)) (c .if1 .came)
+    let start = c .before .before .before .before .before .before .before in
+    let f = membersOf (start .args .members .now) (start .args .ends .now) (start .args .count) in
+    ⊎-elim (λ w. moved (grid (start .args .least) f (c .before .before .before .loop .inv) (c .before .before .loop-test .taken) (start .pre .1) (c .before .members-of .ensures) (w .0 .taken)) (w .1) (w .2))
+    (λ w. moved (past (start .args .least) f (c .before .before .before .loop .inv) (c .before .before .loop-test .taken) (start .pre .1) (c .before .members-of .ensures) (w .0 .left)) (w .1) (w .2)) (c .if1 .came)
 
 same-length : tie.Need-same-length Inv-loop μ-loop
 same-length c = c .before .loop .inv .long

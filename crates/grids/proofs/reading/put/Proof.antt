@@ -64,10 +64,14 @@ shared-slice-read-reading-2 : tie.Need-shared-slice-read-reading-2 Inv-loop μ-l
 shared-slice-read-reading-2 c = c .before .before .before .before .pre .1 (c .before .before .before .loop .k) (c .before .before .loop-test .taken)
 
 add-reading : tie.Need-add-reading Inv-loop μ-loop
-add-reading c = omega (arith, c .before .before .loop-test .taken, c .before .before .before .before .pre .2, c .before .before .before .before .good)
+add-reading c =
+    let start = c .before .before .before .before in
+    omega (arith, c .before .before .loop-test .taken, start .pre .2, start .good)
 
 mul-reading-3 : tie.Need-mul-reading-3 Inv-loop μ-loop
-mul-reading-3 c = omega (arith, c .before .before .loop-test .taken, c .before .before .before .before .pre .2, c .before .before .before .loop .inv .long, c .before .before .before .before .good)
+mul-reading-3 c =
+    let start = c .before .before .before .before in
+    omega (arith, c .before .before .loop-test .taken, start .pre .2, c .before .before .before .loop .inv .long, start .good)
 
 slice-write-reading : tie.Need-slice-write-reading Inv-loop μ-loop
 slice-write-reading c = omega (arith, c .before .before .loop-test .taken, c .before .before .before .before .pre .2, c .before .before .before .loop .inv .long)
@@ -79,7 +83,9 @@ loop-less : tie.Need-loop-less Inv-loop μ-loop
 loop-less c = omega (arith, c .before .before .loop-test .taken)
 
 loop-again : tie.Need-loop-again Inv-loop μ-loop
-loop-again c = turn (c .before .before .before .before .args .set .now) (c .before .before .before .before .args .order .now) (c .before .before .before .before .pre .0) (c .before .before .before .loop .inv) (c .before .before .loop-test .taken)
+loop-again c =
+    let start = c .before .before .before .before in
+    turn (start .args .set .now) (start .args .order .now) (start .pre .0) (c .before .before .before .loop .inv) (c .before .before .loop-test .taken)
 
 same-length : tie.Need-same-length Inv-loop μ-loop
 same-length c = c .before .loop .inv .long

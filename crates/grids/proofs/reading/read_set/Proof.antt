@@ -18,8 +18,9 @@ sort-keys-requires c κs = search needs
 
 put-requires : tie.Need-put-requires
 put-requires c κs =
-    let O = sorted-places (c .before .before .before .before .before .before .before .before .before .before .before .before .before .before .before .before .before .before .before .before .args .rects .now) (c .before .before .before .before .before .before .before .before .before .before .before .before .before .before .before .before .before .before .before .before .args .set .now) (c .before .before .before .before .before .before .before .before .before .before .before .before .before .before .before .before .before .before .before .before .args .keys .now) (c .before .before .before .before .before .before .before .before .before .before .before .before .before .before .before .before .before .before .before .before .args .order .now) (c .before .before .before .before .before .before .before .before .before .before .before .before .set-keys .ensures) (c .before .before .before .before .before .before .sort-keys .ensures) in
-    (still (c .before .before .before .before .before .before .before .before .before .before .before .before .before .before .before .before .before .before .before .before .pre .2 .order) (c .before .before .before .before .before .before .sort-keys .kept .1 .1 .0), order-within (c .before .before .before .before .before .before .before .before .before .before .before .before .before .before .before .before .before .before .before .before .args .rects .now) (c .before .before .before .before .before .before .before .before .before .before .before .before .before .before .before .before .before .before .before .before .args .set .now) (c .before .before .before .before .before .before .before .before .before .before .before .before .before .before .before .before .before .before .before .before .args .order .now) O, c .before .before .before .before .before .before .before .before .before .before .before .before .before .before .before .before .before .before .before .before .pre .3)
+    let start = c .before .before .before .before .before .before .before .before .before .before .before .before .before .before .before .before .before .before .before .before in
+    let O = sorted-places (start .args .rects .now) (start .args .set .now) (start .args .keys .now) (start .args .order .now) (c .before .before .before .before .before .before .before .before .before .before .before .before .set-keys .ensures) (c .before .before .before .before .before .before .sort-keys .ensures) in
+    (still (start .pre .2 .order) (c .before .before .before .before .before .before .sort-keys .kept .1 .1 .0), order-within (start .args .rects .now) (start .args .set .now) (start .args .order .now) O, start .pre .3)
 
 same-length : tie.Need-same-length
 same-length c = search needs
@@ -35,8 +36,9 @@ same-length-4 c = search needs
 
 returns : tie.Need-returns
 returns c =
-    let O = sorted-places (c .before .before .before .before .before .before .before .before .before .before .before .before .before .before .before .before .before .before .before .before .before .before .before .args .rects .now) (c .before .before .before .before .before .before .before .before .before .before .before .before .before .before .before .before .before .before .before .before .before .before .before .args .set .now) (c .before .before .before .before .before .before .before .before .before .before .before .before .before .before .before .before .before .before .before .before .before .before .before .args .keys .now) (c .before .before .before .before .before .before .before .before .before .before .before .before .before .before .before .before .before .before .before .before .before .before .before .args .order .now) (c .before .before .before .before .before .before .before .before .before .before .before .before .before .before .before .set-keys .ensures) (c .before .before .before .before .before .before .before .before .before .sort-keys .ensures) in
-    read-done (c .before .before .before .before .before .before .before .before .before .before .before .before .before .before .before .before .before .before .before .before .before .before .before .args .rects .now) (c .before .before .before .before .before .before .before .before .before .before .before .before .before .before .before .before .before .before .before .before .before .before .before .args .set .now) (c .before .before .before .before .before .before .before .before .before .before .before .before .before .before .before .before .before .before .before .before .before .before .before .args .order .now) (c .before .before .before .before .before .before .before .before .before .before .before .before .before .before .before .before .before .before .before .before .before .before .before .args .reading .now) (c .before .before .before .before .before .before .before .before .before .before .before .before .before .before .before .before .before .before .before .before .before .before .before .args .at) O (c .before .before .put .ensures)
+    let start = c .before .before .before .before .before .before .before .before .before .before .before .before .before .before .before .before .before .before .before .before .before .before .before in
+    let O = sorted-places (start .args .rects .now) (start .args .set .now) (start .args .keys .now) (start .args .order .now) (c .before .before .before .before .before .before .before .before .before .before .before .before .before .before .before .set-keys .ensures) (c .before .before .before .before .before .before .before .before .before .sort-keys .ensures) in
+    read-done (start .args .rects .now) (start .args .set .now) (start .args .order .now) (start .args .reading .now) (start .args .at) O (c .before .before .put .ensures)
 
 pub read-set-spec : {M : Type 1} → statement M
 read-set-spec =

@@ -77,32 +77,40 @@ abbrev μ-loop : tie.MeasureT-loop
 μ-loop rects members ends count reading₀ order₀ work₀ keys₀ at₀ k₀ reading order work keys at k = count - k
 
 loop-holds : tie.Need-loop-holds Inv-loop μ-loop
-loop-holds c = begun (c .before .before .before .before .before .before .before .args .rects .now) (membersOf (c .before .before .before .before .before .before .before .args .members .now) (c .before .before .before .before .before .before .before .args .ends .now) (c .before .before .before .before .before .before .before .args .count)) (c .before .before .before .before .before .before .before .args .count) (c .before .before .before .before .before .before .before .args .reading .now) (c .before .before .before .before .before .before .before .args .order .now) (c .before .before .before .before .before .before .before .args .work .now) (c .before .before .before .before .before .before .before .args .keys .now)
+loop-holds c =
+    let start = c .before .before .before .before .before .before .before in
+    begun (start .args .rects .now) (membersOf (start .args .members .now) (start .args .ends .now) (start .args .count)) (start .args .count) (start .args .reading .now) (start .args .order .now) (start .args .work .now) (start .args .keys .now)
 
 members-of-requires : tie.Need-members-of-requires Inv-loop μ-loop
 members-of-requires c κs = tt
 
 read-set-requires : tie.Need-read-set-requires Inv-loop μ-loop
 read-set-requires c κs =
-    let f = membersOf (c .before .before .before .before .before .before .before .before .before .before .before .before .before .before .args .members .now) (c .before .before .before .before .before .before .before .before .before .before .before .before .before .before .args .ends .now) (c .before .before .before .before .before .before .before .before .before .before .before .before .before .before .args .count) in (
-      c .before .before .before .before .before .before .before .before .before .before .before .before .before .before .pre .0,
-      indexes (c .before .before .before .before .before .before .before .before .before .before .before .before .before .before .args .rects .now) f (c .before .before .before .before .before .before .loop .inv) (c .before .before .before .before .before .loop-test .taken) (c .before .before .before .before .before .before .before .before .before .before .before .before .before .before .pre .1) (c .before .before .before .before .members-of .ensures),
-      roomy (c .before .before .before .before .before .before .before .before .before .before .before .before .before .before .args .rects .now) f (c .before .before .before .before .before .before .loop .inv) (c .before .before .before .before .before .loop-test .taken) (c .before .before .before .before .before .before .before .before .before .before .before .before .before .before .pre .1) (c .before .before .before .before .members-of .ensures) (c .before .before .before .before .before .before .before .before .before .before .before .before .before .before .pre .2),
-      fits (c .before .before .before .before .before .before .before .before .before .before .before .before .before .before .args .rects .now) f (c .before .before .before .before .before .before .loop .inv) (c .before .before .before .before .before .loop-test .taken) (c .before .before .before .before .before .before .before .before .before .before .before .before .before .before .pre .1) (c .before .before .before .before .members-of .ensures) (c .before .before .before .before .before .before .before .before .before .before .before .before .before .before .pre .3),
+    let start = c .before .before .before .before .before .before .before .before .before .before .before .before .before .before in
+    let f = membersOf (start .args .members .now) (start .args .ends .now) (start .args .count) in (
+      start .pre .0,
+      indexes (start .args .rects .now) f (c .before .before .before .before .before .before .loop .inv) (c .before .before .before .before .before .loop-test .taken) (start .pre .1) (c .before .before .before .before .members-of .ensures),
+      roomy (start .args .rects .now) f (c .before .before .before .before .before .before .loop .inv) (c .before .before .before .before .before .loop-test .taken) (start .pre .1) (c .before .before .before .before .members-of .ensures) (start .pre .2),
+      fits (start .args .rects .now) f (c .before .before .before .before .before .before .loop .inv) (c .before .before .before .before .before .loop-test .taken) (start .pre .1) (c .before .before .before .before .members-of .ensures) (start .pre .3),
     )
 
 add-at : tie.Need-add-at Inv-loop μ-loop
-add-at c = omega (arith, end-low (c .before .before .before .before .before .before .before .before .before .before .before .before .before .before .before .before .before .before .before .before .before .before .before .args .rects .now) (membersOf (c .before .before .before .before .before .before .before .before .before .before .before .before .before .before .before .before .before .before .before .before .before .before .before .args .members .now) (c .before .before .before .before .before .before .before .before .before .before .before .before .before .before .before .before .before .before .before .before .before .before .before .args .ends .now) (c .before .before .before .before .before .before .before .before .before .before .before .before .before .before .before .before .before .before .before .before .before .before .before .args .count)) (c .before .before .before .before .before .before .before .before .before .before .before .before .before .before .before .loop .inv) (c .before .before .before .before .before .before .before .before .before .before .before .before .before .before .loop-test .taken) (c .before .before .before .before .before .before .before .before .before .before .before .before .before .before .before .before .before .before .before .before .before .before .before .pre .1) (c .before .before .before .before .before .before .before .before .before .before .before .before .before .members-of .ensures), c .before .before .before .before .before .before .before .before .before .before .before .before .before .before .before .before .before .before .before .before .before .before .before .pre .0 .few)
+add-at c =
+    let start = c .before .before .before .before .before .before .before .before .before .before .before .before .before .before .before .before .before .before .before .before .before .before .before in
+    omega (arith, end-low (start .args .rects .now) (membersOf (start .args .members .now) (start .args .ends .now) (start .args .count)) (c .before .before .before .before .before .before .before .before .before .before .before .before .before .before .before .loop .inv) (c .before .before .before .before .before .before .before .before .before .before .before .before .before .before .loop-test .taken) (start .pre .1) (c .before .before .before .before .before .before .before .before .before .before .before .before .before .members-of .ensures), start .pre .0 .few)
 
 add-k : tie.Need-add-k Inv-loop μ-loop
-add-k c = omega (arith, c .before .before .before .before .before .before .before .before .before .before .before .before .before .before .loop-test .taken, c .before .before .before .before .before .before .before .before .before .before .before .before .before .before .before .before .before .before .before .before .before .before .before .pre .1 .few, c .before .before .before .before .before .before .before .before .before .before .before .before .before .before .before .before .before .before .before .before .before .before .before .pre .0 .few)
+add-k c =
+    let start = c .before .before .before .before .before .before .before .before .before .before .before .before .before .before .before .before .before .before .before .before .before .before .before in
+    omega (arith, c .before .before .before .before .before .before .before .before .before .before .before .before .before .before .loop-test .taken, start .pre .1 .few, start .pre .0 .few)
 
 loop-less : tie.Need-loop-less Inv-loop μ-loop
 loop-less c = omega (arith, c .before .before .before .before .before .before .before .before .before .before .before .before .before .before .loop-test .taken)
 
 loop-again : tie.Need-loop-again Inv-loop μ-loop
 loop-again c =
-    turn (c .before .before .before .before .before .before .before .before .before .before .before .before .before .before .before .before .before .before .before .before .before .before .before .args .rects .now) (membersOf (c .before .before .before .before .before .before .before .before .before .before .before .before .before .before .before .before .before .before .before .before .before .before .before .args .members .now) (c .before .before .before .before .before .before .before .before .before .before .before .before .before .before .before .before .before .before .before .before .before .before .before .args .ends .now) (c .before .before .before .before .before .before .before .before .before .before .before .before .before .before .before .before .before .before .before .before .before .before .before .args .count)) (c .before .before .before .before .before .before .before .before .before .before .before .before .before .before .before .loop .inv) (c .before .before .before .before .before .before .before .before .before .before .before .before .before .before .loop-test .taken) (c .before .before .before .before .before .before .before .before .before .before .before .before .before .before .before .before .before .before .before .before .before .before .before .pre .1) (c .before .before .before .before .before .before .before .before .before .before .before .before .before .members-of .ensures) (c .before .before .before .before .before .before .before .before .before .before .before .before .before .before .before .before .before .before .before .before .before .before .before .pre .3)
+    let start = c .before .before .before .before .before .before .before .before .before .before .before .before .before .before .before .before .before .before .before .before .before .before .before in
+    turn (start .args .rects .now) (membersOf (start .args .members .now) (start .args .ends .now) (start .args .count)) (c .before .before .before .before .before .before .before .before .before .before .before .before .before .before .before .loop .inv) (c .before .before .before .before .before .before .before .before .before .before .before .before .before .before .loop-test .taken) (start .pre .1) (c .before .before .before .before .before .before .before .before .before .before .before .before .before .members-of .ensures) (start .pre .3)
     (c .before .before .before .before .before .before .before .before .read-set .kept .1 .1 .0) (c .before .before .before .before .before .before .before .before .read-set .kept .1 .1 .1 .1 .0) (c .before .before .before .before .before .before .before .before .read-set .kept .1 .1 .1 .1 .1 .0) (c .before .before .before .before .before .before .before .before .read-set .kept .1 .1 .1 .1 .1 .1 .0) (c .before .before .before .before .before .before .before .before .read-set .ensures)
 
 same-length : tie.Need-same-length Inv-loop μ-loop

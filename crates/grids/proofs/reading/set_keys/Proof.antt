@@ -56,37 +56,55 @@ loop-holds : tie.Need-loop-holds Inv-loop μ-loop
 loop-holds c = record { up-to = zero-le; long = refl; content = refl }
 
 mul-rect-at : tie.Need-mul-rect-at Inv-loop μ-loop
-mul-rect-at c = omega (arith, c .loop-test .taken, c .before .before .before .before .before .pre .1 .short, c .before .before .before .before .before .pre .0 .few)
+mul-rect-at c =
+    let start = c .before .before .before .before .before in
+    omega (arith, c .loop-test .taken, start .pre .1 .short, start .pre .0 .few)
 
 shared-slice-read-rect-at : tie.Need-shared-slice-read-rect-at Inv-loop μ-loop
 shared-slice-read-rect-at c = c .before .loop-test .taken
 
 cast-rect-at : tie.Need-cast-rect-at Inv-loop μ-loop
-cast-rect-at c = omega (arith, member (c .before .before .before .before .before .before .args .set .now) (c .before .before .before .before .before .before .pre .1) (c .before .before .loop .k) (c .before .loop-test .taken), c .before .before .before .before .before .before .pre .0 .few)
+cast-rect-at c =
+    let start = c .before .before .before .before .before .before in
+    omega (arith, member (start .args .set .now) (start .pre .1) (c .before .before .loop .k) (c .before .loop-test .taken), start .pre .0 .few)
 
 rect-at-requires : tie.Need-rect-at-requires Inv-loop μ-loop
-rect-at-requires c κs = has-numbers (length (c .before .before .before .before .before .before .args .rects .now)) (getD (c .before .before .before .before .before .before .args .set .now) (c .before .before .loop .k) 0) (member (c .before .before .before .before .before .before .args .set .now) (c .before .before .before .before .before .before .pre .1) (c .before .before .loop .k) (c .before .loop-test .taken))
+rect-at-requires c κs =
+    let start = c .before .before .before .before .before .before in
+    has-numbers (length (start .args .rects .now)) (getD (start .args .set .now) (c .before .before .loop .k) 0) (member (start .args .set .now) (start .pre .1) (c .before .before .loop .k) (c .before .loop-test .taken))
 
 cast-keys : tie.Need-cast-keys Inv-loop μ-loop
-cast-keys c = omega (arith, small (c .before .before .before .before .before .before .before .before .args .rects .now) (c .before .before .before .before .before .before .before .before .args .set .now) (c .before .before .before .before .before .before .before .before .pre .0) (c .before .before .before .before .before .before .before .before .pre .1) (c .before .before .before .loop-test .taken) (c .before .rect-at .ensures))
+cast-keys c =
+    let start = c .before .before .before .before .before .before .before .before in
+    omega (arith, small (start .args .rects .now) (start .args .set .now) (start .pre .0) (start .pre .1) (c .before .before .before .loop-test .taken) (c .before .rect-at .ensures))
 
 mul-keys : tie.Need-mul-keys Inv-loop μ-loop
-mul-keys c = omega (arith, small (c .before .before .before .before .before .before .before .before .args .rects .now) (c .before .before .before .before .before .before .before .before .args .set .now) (c .before .before .before .before .before .before .before .before .pre .0) (c .before .before .before .before .before .before .before .before .pre .1) (c .before .before .before .loop-test .taken) (c .before .rect-at .ensures))
+mul-keys c =
+    let start = c .before .before .before .before .before .before .before .before in
+    omega (arith, small (start .args .rects .now) (start .args .set .now) (start .pre .0) (start .pre .1) (c .before .before .before .loop-test .taken) (c .before .rect-at .ensures))
 
 cast-keys-2 : tie.Need-cast-keys-2 Inv-loop μ-loop
-cast-keys-2 c = omega (arith, small (c .before .before .before .before .before .before .before .before .before .args .rects .now) (c .before .before .before .before .before .before .before .before .before .args .set .now) (c .before .before .before .before .before .before .before .before .before .pre .0) (c .before .before .before .before .before .before .before .before .before .pre .1) (c .before .before .before .before .loop-test .taken) (c .before .before .rect-at .ensures))
+cast-keys-2 c =
+    let start = c .before .before .before .before .before .before .before .before .before in
+    omega (arith, small (start .args .rects .now) (start .args .set .now) (start .pre .0) (start .pre .1) (c .before .before .before .before .loop-test .taken) (c .before .before .rect-at .ensures))
 
 add-keys : tie.Need-add-keys Inv-loop μ-loop
-add-keys c = omega (arith, small (c .before .before .before .before .before .before .before .before .before .args .rects .now) (c .before .before .before .before .before .before .before .before .before .args .set .now) (c .before .before .before .before .before .before .before .before .before .pre .0) (c .before .before .before .before .before .before .before .before .before .pre .1) (c .before .before .before .before .loop-test .taken) (c .before .before .rect-at .ensures))
+add-keys c =
+    let start = c .before .before .before .before .before .before .before .before .before in
+    omega (arith, small (start .args .rects .now) (start .args .set .now) (start .pre .0) (start .pre .1) (c .before .before .before .before .loop-test .taken) (c .before .before .rect-at .ensures))
 
 mul-keys-2 : tie.Need-mul-keys-2 Inv-loop μ-loop
-mul-keys-2 c = omega (arith, c .before .before .before .before .loop-test .taken, c .before .before .before .before .before .before .before .before .before .pre .1 .short, c .before .before .before .before .before .before .before .before .before .pre .0 .few)
+mul-keys-2 c =
+    let start = c .before .before .before .before .before .before .before .before .before in
+    omega (arith, c .before .before .before .before .loop-test .taken, start .pre .1 .short, start .pre .0 .few)
 
 slice-write-keys : tie.Need-slice-write-keys Inv-loop μ-loop
 slice-write-keys c = omega (arith, c .before .before .before .before .loop-test .taken, c .before .before .before .before .before .before .before .before .before .pre .2, c .before .before .before .before .before .loop .inv .long)
 
 add-k : tie.Need-add-k Inv-loop μ-loop
-add-k c = omega (arith, c .before .before .before .before .loop-test .taken, c .before .before .before .before .before .before .before .before .before .pre .1 .short, c .before .before .before .before .before .before .before .before .before .pre .0 .few)
+add-k c =
+    let start = c .before .before .before .before .before .before .before .before .before in
+    omega (arith, c .before .before .before .before .loop-test .taken, start .pre .1 .short, start .pre .0 .few)
 
 loop-less : tie.Need-loop-less Inv-loop μ-loop
 loop-less c = omega (arith, c .before .before .before .before .loop-test .taken)

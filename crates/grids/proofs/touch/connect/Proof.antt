@@ -32,10 +32,14 @@ room : {n : ℕ} {p : List ℕ} → n ≤ length p → n ≤ 16384 → Room n p
 room h k = record { room = h; small = omega arith }
 
 join-all-requires : tie.Need-join-all-requires
-join-all-requires c κs = (c .before .before .before .before .before .before .pre .0, c .before .before .before .before .before .before .pre .1, room (c .before .before .before .before .before .before .pre .2) (c .before .before .before .before .before .before .pre .1 .few))
+join-all-requires c κs =
+    let start = c .before .before .before .before .before .before in
+    (start .pre .0, start .pre .1, room (start .pre .2) (start .pre .1 .few))
 
 list-requires : tie.Need-list-requires
-list-requires c κs = (c .before .before .before .before .before .before .join-all .ensures .parents, c .before .before .before .before .before .before .before .before .before .before .before .before .before .pre .3, c .before .before .before .before .before .before .before .before .before .before .before .before .before .pre .4, c .before .before .before .before .before .before .before .before .before .before .before .before .before .pre .5)
+list-requires c κs =
+    let start = c .before .before .before .before .before .before .before .before .before .before .before .before .before in
+    (c .before .before .before .before .before .before .join-all .ensures .parents, start .pre .3, start .pre .4, start .pre .5)
 
 same-length : tie.Need-same-length
 same-length c = c .before .before .before .before .before .before .before .before .list .kept .0 ∙ c .before .before .before .before .before .before .before .before .before .before .before .before .before .before .before .join-all .kept .1 .1 .0
@@ -50,7 +54,9 @@ same-length-4 : tie.Need-same-length-4
 same-length-4 c = c .before .before .before .before .before .before .before .before .list .kept .1 .1 .1 .1 .0
 
 returns : tie.Need-returns
-returns c = listed (c .before .before .before .before .before .before .before .before .before .before .before .before .before .before .before .before .before .before .before .before .before .before .args .rects .now) (c .before .before .before .before .before .before .before .before .before .before .before .before .before .before .before .before .before .before .before .before .before .before .args .limit) (c .before .before .before .before .before .before .before .before .before .before .before .before .before .before .before .join-all .ensures) (c .before .before .before .before .before .before .before .before .list .ensures)
+returns c =
+    let start = c .before .before .before .before .before .before .before .before .before .before .before .before .before .before .before .before .before .before .before .before .before .before in
+    listed (start .args .rects .now) (start .args .limit) (c .before .before .before .before .before .before .before .before .before .before .before .before .before .before .before .join-all .ensures) (c .before .before .before .before .before .before .before .before .list .ensures)
 
 pub connect-spec : {M : Type 1} → statement M
 connect-spec =

@@ -35,10 +35,14 @@ begin-requires : tie.Need-begin-requires Inv-loop μ-loop
 begin-requires c κs = c .before .before .before .pre .2
 
 loop-holds : tie.Need-loop-holds Inv-loop μ-loop
-loop-holds c = begun (Touch (c .before .before .before .before .before .before .args .rects .now) (c .before .before .before .before .before .before .args .limit)) (c .before .before .before .before .before .before .pre .2) (c .before .before .begin .ensures)
+loop-holds c =
+    let start = c .before .before .before .before .before .before in
+    begun (Touch (start .args .rects .now) (start .args .limit)) (start .pre .2) (c .before .before .begin .ensures)
 
 join-row-requires : tie.Need-join-row-requires Inv-loop μ-loop
-join-row-requires c κs = (c .before .before .before .before .before .before .before .before .before .pre .0, c .before .before .before .before .before .before .before .before .before .pre .1, c .before .loop-test .taken, c .before .before .loop .inv .seen)
+join-row-requires c κs =
+    let start = c .before .before .before .before .before .before .before .before .before in
+    (start .pre .0, start .pre .1, c .before .loop-test .taken, c .before .before .loop .inv .seen)
 
 add-i : tie.Need-add-i Inv-loop μ-loop
 add-i c = omega (arith, c .before .before .before .before .loop-test .taken, c .before .before .before .before .before .before .before .before .before .before .before .before .pre .1 .few)
@@ -47,13 +51,17 @@ loop-less : tie.Need-loop-less Inv-loop μ-loop
 loop-less c = omega (arith, c .before .before .before .before .loop-test .taken)
 
 loop-again : tie.Need-loop-again Inv-loop μ-loop
-loop-again c = turn (Touch (c .before .before .before .before .before .before .before .before .before .before .before .before .args .rects .now) (c .before .before .before .before .before .before .before .before .before .before .before .before .args .limit)) (c .before .before .before .before .before .loop .inv) (c .before .before .before .before .loop-test .taken) (c .before .before .join-row .kept .1 .1 .0) (c .before .before .join-row .ensures)
+loop-again c =
+    let start = c .before .before .before .before .before .before .before .before .before .before .before .before in
+    turn (Touch (start .args .rects .now) (start .args .limit)) (c .before .before .before .before .before .loop .inv) (c .before .before .before .before .loop-test .taken) (c .before .before .join-row .kept .1 .1 .0) (c .before .before .join-row .ensures)
 
 same-length : tie.Need-same-length Inv-loop μ-loop
 same-length c = c .before .loop .inv .long ∙ c .before .before .before .before .begin .kept .0
 
 returns : tie.Need-returns Inv-loop μ-loop
-returns c = all-seen (Touch (c .before .before .before .before .before .before .before .before .args .rects .now) (c .before .before .before .before .before .before .before .before .args .limit)) (c .before .loop .inv .seen) (c .loop-test .left)
+returns c =
+    let start = c .before .before .before .before .before .before .before .before in
+    all-seen (Touch (start .args .rects .now) (start .args .limit)) (c .before .loop .inv .seen) (c .loop-test .left)
 
 pub join-all-spec : {M : Type 1} → statement M
 join-all-spec =

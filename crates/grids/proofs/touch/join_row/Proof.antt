@@ -59,7 +59,9 @@ next-requires : tie.Need-next-requires Inv-loop μ-loop
 next-requires c κs = (c .before .before .before .pre .0, c .before .before .before .pre .1, c .before .before .before .pre .2, omega (arith, c .before .before .before .pre .2), c .before .before .before .pre .3 .parents .room)
 
 loop-holds : tie.Need-loop-holds Inv-loop μ-loop
-loop-holds c = advance (c .before .before .before .before .args .rects .now) (c .before .before .before .before .args .limit) (c .before .before .before .before .pre .1) (c .before .before .before .before .pre .2) refl (c .before .before .before .before .pre .3) (omega arith) (c .next .ensures)
+loop-holds c =
+    let start = c .before .before .before .before in
+    advance (start .args .rects .now) (start .args .limit) (start .pre .1) (start .pre .2) refl (start .pre .3) (omega arith) (c .next .ensures)
 
 join-requires : tie.Need-join-requires Inv-loop μ-loop
 join-requires c κs = (c .before .before .loop .inv .seen .parents, c .before .before .before .before .before .before .before .pre .2, c .before .loop-test .taken)
@@ -68,13 +70,17 @@ add-next-2 : tie.Need-add-next-2 Inv-loop μ-loop
 add-next-2 c = omega (arith, c .before .before .before .before .before .loop-test .taken, c .before .before .before .before .before .before .before .before .before .before .before .pre .1 .few)
 
 next-requires-2 : tie.Need-next-requires-2 Inv-loop μ-loop
-next-requires-2 c κs = (c .before .before .before .before .before .before .before .before .before .before .before .pre .0, c .before .before .before .before .before .before .before .before .before .before .before .pre .1, c .before .before .before .before .before .before .before .before .before .before .before .pre .2, omega (arith, c .before .before .before .before .before .loop-test .taken), c .before .before .before .join .ensures .parents .room)
+next-requires-2 c κs =
+    let start = c .before .before .before .before .before .before .before .before .before .before .before in
+    (start .pre .0, start .pre .1, start .pre .2, omega (arith, c .before .before .before .before .before .loop-test .taken), c .before .before .before .join .ensures .parents .room)
 
 loop-less : tie.Need-loop-less Inv-loop μ-loop
 loop-less c = omega (arith, c .before .before .before .before .before .before .loop-test .taken, c .next2 .ensures .later, c .next2 .ensures .up-to)
 
 loop-again : tie.Need-loop-again Inv-loop μ-loop
-loop-again c = turn (c .before .before .before .before .before .before .before .before .before .before .before .before .args .rects .now) (c .before .before .before .before .before .before .before .before .before .before .before .before .args .limit) (c .before .before .before .before .before .before .before .before .before .before .before .before .pre .1) (c .before .before .before .before .before .before .before .before .before .before .before .before .pre .2) (c .before .before .before .before .before .before .before .loop .inv) (c .before .before .before .before .before .before .loop-test .taken) (c .before .before .before .before .join .kept .0) (c .before .before .before .before .join .ensures) (c .next2 .ensures)
+loop-again c =
+    let start = c .before .before .before .before .before .before .before .before .before .before .before .before in
+    turn (start .args .rects .now) (start .args .limit) (start .pre .1) (start .pre .2) (c .before .before .before .before .before .before .before .loop .inv) (c .before .before .before .before .before .before .loop-test .taken) (c .before .before .before .before .join .kept .0) (c .before .before .before .before .join .ensures) (c .next2 .ensures)
 
 same-length : tie.Need-same-length Inv-loop μ-loop
 same-length c = c .before .loop .inv .long

@@ -71,7 +71,9 @@ mul-own : tie.Need-mul-own Inv-loop μ-loop
 mul-own c = omega (arith, c .before .before .before .pre .2, c .before .before .before .pre .1 .few)
 
 shared-slice-read-own : tie.Need-shared-slice-read-own Inv-loop μ-loop
-shared-slice-read-own c = omega (arith, c .before .before .before .before .pre .2, c .before .before .before .before .pre .4)
+shared-slice-read-own c =
+    let start = c .before .before .before .before in
+    omega (arith, start .pre .2, start .pre .4)
 
 loop-holds : tie.Need-loop-holds Inv-loop μ-loop
 loop-holds c = record { later = le-refl _; up-to = c .before .before .before .before .pre .3; passed = λ k h m. absurd (omega arith) }
@@ -86,10 +88,14 @@ rect-at-requires-2 : tie.Need-rect-at-requires-2 Inv-loop μ-loop
 rect-at-requires-2 c κs = has-numbers (length (c .before .before .before .before .before .before .before .args .rects .now)) (c .before .before .loop .j) (c .before .loop-test .taken)
 
 touches-requires : tie.Need-touches-requires Inv-loop μ-loop
-touches-requires c κs = (c .before .before .before .before .before .before .before .before .pre .0, read (c .before .before .before .before .before .before .before .before .pre .1 .inside (c .before .before .before .before .before .before .before .before .args .i) (c .before .before .before .before .before .before .before .before .pre .2)) (c .before .before .before .before .before .rect-at .ensures), read (c .before .before .before .before .before .before .before .before .pre .1 .inside (c .before .before .before .loop .j) (c .before .before .loop-test .taken)) (c .rect-at2 .ensures))
+touches-requires c κs =
+    let start = c .before .before .before .before .before .before .before .before in
+    (start .pre .0, read (start .pre .1 .inside (start .args .i) (start .pre .2)) (c .before .before .before .before .before .rect-at .ensures), read (start .pre .1 .inside (c .before .before .before .loop .j) (c .before .before .loop-test .taken)) (c .rect-at2 .ensures))
 
 returns : tie.Need-returns Inv-loop μ-loop
-returns c = stop (c .before .before .before .before .before .before .before .before .before .before .args .rects .now) (c .before .before .before .before .before .before .before .before .before .before .args .limit) (c .before .before .before .before .before .loop .inv) (c .before .before .before .before .loop-test .taken) (c .before .before .before .before .before .before .before .rect-at .ensures) (c .before .before .rect-at2 .ensures) (c .before .touches .ensures) (c .if1 .taken)
+returns c =
+    let start = c .before .before .before .before .before .before .before .before .before .before in
+    stop (start .args .rects .now) (start .args .limit) (c .before .before .before .before .before .loop .inv) (c .before .before .before .before .loop-test .taken) (c .before .before .before .before .before .before .before .rect-at .ensures) (c .before .before .rect-at2 .ensures) (c .before .touches .ensures) (c .if1 .taken)
 
 add-j : tie.Need-add-j Inv-loop μ-loop
 add-j c = omega (arith, c .before .before .before .before .loop-test .taken, c .before .before .before .before .before .before .before .before .before .before .pre .1 .few)
@@ -98,7 +104,9 @@ loop-less : tie.Need-loop-less Inv-loop μ-loop
 loop-less c = omega (arith, c .before .before .before .before .loop-test .taken)
 
 loop-again : tie.Need-loop-again Inv-loop μ-loop
-loop-again c = turn (c .before .before .before .before .before .before .before .before .before .before .args .rects .now) (c .before .before .before .before .before .before .before .before .before .before .args .limit) (c .before .before .before .before .before .loop .inv) (c .before .before .before .before .loop-test .taken) (c .before .before .before .before .before .before .before .rect-at .ensures) (c .before .before .rect-at2 .ensures) (c .before .touches .ensures) (c .if1 .left)
+loop-again c =
+    let start = c .before .before .before .before .before .before .before .before .before .before in
+    turn (start .args .rects .now) (start .args .limit) (c .before .before .before .before .before .loop .inv) (c .before .before .before .before .loop-test .taken) (c .before .before .before .before .before .before .before .rect-at .ensures) (c .before .before .rect-at2 .ensures) (c .before .touches .ensures) (c .if1 .left)
 
 returns-2 : tie.Need-returns-2 Inv-loop μ-loop
 returns-2 c = none (c .before .loop .inv) (c .loop-test .left)

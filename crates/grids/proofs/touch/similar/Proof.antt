@@ -18,7 +18,9 @@ int-to-float-result-2 : tie.Need-int-to-float-result-2
 int-to-float-result-2 c = search needs
 
 returns : tie.Need-returns
-returns c = found-similar (c .before .before .before .before .args .a) (c .before .before .before .before .args .b) (omega (arith, c .before .before .before .before .fits)) (omega (arith, c .before .before .before .before .fits)) (c .before .before .before .distance .ensures) (c .before .greatest .ensures)
+returns c =
+    let start = c .before .before .before .before in
+    found-similar (start .args .a) (start .args .b) (omega (arith, c .before .before .before .before .fits)) (omega (arith, c .before .before .before .before .fits)) (c .before .before .before .distance .ensures) (c .before .greatest .ensures)
 
 pub similar-spec : {M : Type 1} → statement M
 similar-spec = tie.close (tie.spec distance-requires int-to-float-result greatest-requires int-to-float-result-2 returns)

@@ -23,7 +23,9 @@ similar-requires : tie.Need-similar-requires
 similar-requires c κs = search needs
 
 returns-3 : tie.Need-returns-3
-returns-3 c = then-similar (c .before .before .before .before .before .before .args .limit) (c .before .before .before .before .before .before .args .a) (c .before .before .before .before .before .before .args .b) (c .before .before .before .before .before .if1 .left) (c .before .before .before .before .aligned .ensures) (c .before .before .before .if2 .left) (c .before .before .size .ensures) (c .before .size2 .ensures) (c .similar .ensures)
+returns-3 c =
+    let start = c .before .before .before .before .before .before in
+    then-similar (start .args .limit) (start .args .a) (start .args .b) (c .before .before .before .before .before .if1 .left) (c .before .before .before .before .aligned .ensures) (c .before .before .before .if2 .left) (c .before .before .size .ensures) (c .before .size2 .ensures) (c .similar .ensures)
 
 pub touches-spec : {M : Type 1} → statement M
 touches-spec =

@@ -37,8 +37,9 @@ line-has-ink-requires c κs = (c .before .before .before .before .pre, omega (ar
 
 longer-run-requires : tie.Need-longer-run-requires Inv-loop μ-loop
 longer-run-requires c κs =
-    let a = c .before .before .before .before .before .args in
-    omega (arith, c .before .before .loop .inv .1, run-le (test (a .mask .now) (a .w) (a .r) (a .rows)) (c .before .before .loop .k), c .before .loop-test .taken, c .before .before .before .lines-of .ensures, lines-le (a .mask .now) (a .w) (a .r) (c .before .before .before .before .before .pre) (a .rows))
+    let start = c .before .before .before .before .before in
+    let a = start .args in
+    omega (arith, c .before .before .loop .inv .1, run-le (test (a .mask .now) (a .w) (a .r) (a .rows)) (c .before .before .loop .k), c .before .loop-test .taken, c .before .before .before .lines-of .ensures, lines-le (a .mask .now) (a .w) (a .r) (start .pre) (a .rows))
 
 greatest-requires : tie.Need-greatest-requires Inv-loop μ-loop
 greatest-requires c κs = tt

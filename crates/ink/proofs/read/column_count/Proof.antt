@@ -40,8 +40,9 @@ add-is-ink c = search needs
 
 is-ink-requires : tie.Need-is-ink-requires Inv-loop μ-loop
 is-ink-requires c κs =
-    let a = c .before .before .before .before .before .before .args in
-    omega (arith, row-in-mask (a .mask .now) (a .w) (a .r) (c .before .before .before .before .before .before .pre .0) (c .before .loop .j) (omega (arith, c .before .before .height .ensures)), c .before .before .before .before .before .before .pre .0 .wide, c .before .before .before .before .before .before .pre .1)
+    let start = c .before .before .before .before .before .before in
+    let a = start .args in
+    omega (arith, row-in-mask (a .mask .now) (a .w) (a .r) (start .pre .0) (c .before .loop .j) (omega (arith, c .before .before .height .ensures)), start .pre .0 .wide, start .pre .1)
 
 one-requires : tie.Need-one-requires Inv-loop μ-loop
 one-requires c κs = tt

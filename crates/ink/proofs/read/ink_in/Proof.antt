@@ -27,8 +27,9 @@ row-count-requires c κs = (c .before .before .before .before .pre, omega (arith
 -- a row has no more ink than places
 row-small : (c : tie.After-row-count Inv-loop μ-loop) → c .row-count .result ≤ 8192
 row-small c =
-    let a = c .before .before .before .before .before .args in
-    omega (arith, c .row-count .ensures, row-le (a .mask .now) (a .w) (a .r) (c .before .before .loop .j), c .before .before .before .before .before .pre .narrow, c .before .before .before .before .before .pre .right, c .before .before .before .before .before .pre .wide)
+    let start = c .before .before .before .before .before in
+    let a = start .args in
+    omega (arith, c .row-count .ensures, row-le (a .mask .now) (a .w) (a .r) (c .before .before .loop .j), start .pre .narrow, start .pre .right, start .pre .wide)
 
 add-n : tie.Need-add-n Inv-loop μ-loop
 add-n c = omega (arith, row-small c, c .before .before .before .height .ensures, c .before .before .before .before .before .pre .low)

@@ -55,8 +55,9 @@ inked-requires c κs = search needs
 
 returns : tie.Need-returns
 returns c =
-    let a = c .before .before .before .before .before .before .args in
-    c .inked .ensures ∙ span-long (a .mask .now) (a .w) (a .r) (a .j) (omega (arith, in-mask (c .before .before .before .before .before .before), c .before .before .before .before .before .before .pre .0 .wide, c .before .before .width .ensures)) refl (c .before .before .width .ensures) refl
+    let start = c .before .before .before .before .before .before in
+    let a = start .args in
+    c .inked .ensures ∙ span-long (a .mask .now) (a .w) (a .r) (a .j) (omega (arith, in-mask (c .before .before .before .before .before .before), start .pre .0 .wide, c .before .before .width .ensures)) refl (c .before .before .width .ensures) refl
 
 pub row-count-spec : {M : Type 1} → statement M
 row-count-spec =

@@ -15,7 +15,9 @@ by-bounds : {members ends : List ℕ} {count k : ℕ} (found : List ℕ) (start 
 by-bounds {members} found start e s f = ap₂ (λ (n i : ℕ). take n (drop i members)) (ap length e) s ∙ f .part
 
 full : (c : tie.Else1) → Full (c .before .before .before .before .args .members .now) (c .before .before .before .before .args .ends .now) (c .before .before .before .before .args .count) (c .before .before .before .before .args .set)
-full c = full-part (c .before .before .before .before .args .members .now) (c .before .before .before .before .args .ends .now) (c .before .before .before .before .args .count) (c .before .before .before .before .args .set) (λ e. c .if1 .left (ap length (c .before .members-of .ensures) ∙ e))
+full c =
+    let start = c .before .before .before .before in
+    full-part (start .args .members .now) (start .args .ends .now) (start .args .count) (start .args .set) (λ e. c .if1 .left (ap length (c .before .members-of .ensures) ∙ e))
 
 members-of-requires : tie.Need-members-of-requires
 members-of-requires c κs = search needs
@@ -33,7 +35,9 @@ below : (n k : ℕ) → k < n → k - 1 < n
 below n k h = omega arith
 
 mul-t9 : tie.Need-mul-t9
-mul-t9 c = scaled-fits (c .before .before .before .before .before .args .set - 1) (length (c .before .before .before .before .before .args .ends .now)) 4 (below _ _ (full (c .before) .inside)) (c .before .before .before .before .before .good .1 .0 .1)
+mul-t9 c =
+    let start = c .before .before .before .before .before in
+    scaled-fits (start .args .set - 1) (length (start .args .ends .now)) 4 (below _ _ (full (c .before) .inside)) (start .good .1 .0 .1)
 
 shared-slice-read-t11 : tie.Need-shared-slice-read-t11
 shared-slice-read-t11 c = below _ _ (full (c .before .before) .inside)

@@ -30,8 +30,9 @@ returns-2 c = let a = c .before .before .before .before .before .before .before 
 
 room : (c : tie.Else2) → let a = c .before .before .before .before .before .args in ((a .y - a .shear) * a .sides .pw + a .sides .pw ≤ length (a .gray .now)) × (length (a .gray .now) ≤ 67108864)
 room c =
-    let a = c .before .before .before .before .before .args in
-    let pre = c .before .before .before .before .before .pre in
+    let start = c .before .before .before .before .before in
+    let a = start .args in
+    let pre = start .pre in
     (omega (arith, row-within (a .sides .pw) (a .sides .ph) {y = a .y - a .shear} (c .if2 .left), pre .1 .1 .0), omega (arith, small-product (pre .0) (pre .1 .0), pre .1 .1 .0))
 
 mul-start : tie.Need-mul-start

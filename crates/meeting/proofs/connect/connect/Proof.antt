@@ -44,7 +44,9 @@ slice-aggregate-join-all : tie.Need-slice-aggregate-join-all
 slice-aggregate-join-all c = sym (length-take-le (c .before .before .before .verticals .result) (c .before .before .before .verticals .last .1 .1 .1 .0) (omega (arith, c .before .before .before .verticals .ensures .few, c .before .before .before .before .before .before .before .before .before .before .before .before .pre .0 .3, c .before .before .before .verticals .kept .1 .1 .1 .0)))
 
 join-all-requires : tie.Need-join-all-requires
-join-all-requires c κs = (c .before .before .before .before .before .before .before .before .before .before .before .before .before .pre .0 .0, c .before .before .before .before .before .before .before .before .before .before .before .before .before .pre .0 .1, c .before .before .before .before .verticals .ensures .listed, room (c .before .before .before .before .before .before .before .before .before .before .before .before .before .pre .0 .2) (c .before .before .before .before .before .before .before .before .before .before .before .before .before .pre .0 .1 .few))
+join-all-requires c κs =
+    let start = c .before .before .before .before .before .before .before .before .before .before .before .before .before in
+    (start .pre .0 .0, start .pre .0 .1, c .before .before .before .before .verticals .ensures .listed, room (start .pre .0 .2) (start .pre .0 .1 .few))
 
 list-requires : tie.Need-list-requires
 list-requires c κs = search needs
@@ -62,7 +64,9 @@ same-length-4 : tie.Need-same-length-4
 same-length-4 c = search needs
 
 returns : tie.Need-returns
-returns c = listed (c .before .before .before .before .before .before .before .before .before .before .before .before .before .before .before .before .before .before .before .before .before .before .before .before .before .before .before .before .before .args .join) (rulingAt (c .before .before .before .before .before .before .before .before .before .before .before .before .before .before .before .before .before .before .before .before .before .before .before .before .before .before .before .before .before .args .rects .now) (c .before .before .before .before .before .before .before .before .before .before .before .before .before .before .before .before .before .before .before .before .before .before .before .before .before .before .before .before .before .args .directions .now) (c .before .before .before .before .before .before .before .before .before .before .before .before .before .before .before .before .before .before .before .before .before .before .before .before .before .before .before .before .before .args .chosen .now)) (c .before .before .before .before .before .before .before .before .before .before .before .before .before .before .before .join-all .ensures) (c .before .before .before .before .before .before .before .before .list .ensures)
+returns c =
+    let start = c .before .before .before .before .before .before .before .before .before .before .before .before .before .before .before .before .before .before .before .before .before .before .before .before .before .before .before .before .before in
+    listed (start .args .join) (rulingAt (start .args .rects .now) (start .args .directions .now) (start .args .chosen .now)) (c .before .before .before .before .before .before .before .before .before .before .before .before .before .before .before .join-all .ensures) (c .before .before .before .before .before .before .before .before .list .ensures)
 
 pub connect-spec : {M : Type 1} → statement M
 connect-spec =

@@ -74,16 +74,24 @@ abbrev μ-loop : tie.MeasureT-loop
 μ-loop rects directions chosen verticals join parents₀ i n a k₀ parents k = length verticals - k
 
 ruling-at-requires : tie.Need-ruling-at-requires Inv-loop μ-loop
-ruling-at-requires c κs = (c .before .before .before .before .before .pre .0 .1, c .before .before .before .before .before .pre .0 .3)
+ruling-at-requires c κs =
+    let start = c .before .before .before .before .before in
+    (start .pre .0 .1, start .pre .0 .3)
 
 returns : tie.Need-returns Inv-loop μ-loop
-returns c = upright (c .before .before .before .before .before .before .before .before .args .join) (rulingAt (c .before .before .before .before .before .before .before .before .args .rects .now) (c .before .before .before .before .before .before .before .before .args .directions .now) (c .before .before .before .before .before .before .before .before .args .chosen .now)) (length (c .before .before .before .before .before .before .before .before .args .chosen .now)) (c .before .before .ruling-at .ensures) (c .if1 .taken) (c .before .before .before .before .before .before .before .before .pre .1)
+returns c =
+    let start = c .before .before .before .before .before .before .before .before in
+    upright (start .args .join) (rulingAt (start .args .rects .now) (start .args .directions .now) (start .args .chosen .now)) (length (start .args .chosen .now)) (c .before .before .ruling-at .ensures) (c .if1 .taken) (start .pre .1)
 
 loop-holds : tie.Need-loop-holds Inv-loop μ-loop
-loop-holds c = begun (c .before .before .before .before .before .before .before .before .args .join) (rulingAt (c .before .before .before .before .before .before .before .before .args .rects .now) (c .before .before .before .before .before .before .before .before .args .directions .now) (c .before .before .before .before .before .before .before .before .args .chosen .now)) (length (c .before .before .before .before .before .before .before .before .args .chosen .now)) (c .before .before .ruling-at .ensures) (not-false (c .before .before .ruling-at .result .horizontal) (c .if1 .left)) (c .before .before .before .before .before .before .before .before .pre .1)
+loop-holds c =
+    let start = c .before .before .before .before .before .before .before .before in
+    begun (start .args .join) (rulingAt (start .args .rects .now) (start .args .directions .now) (start .args .chosen .now)) (length (start .args .chosen .now)) (c .before .before .ruling-at .ensures) (not-false (c .before .before .ruling-at .result .horizontal) (c .if1 .left)) (start .pre .1)
 
 mul-j : tie.Need-mul-j Inv-loop μ-loop
-mul-j c = scaled-fits (c .before .loop .k) (length (c .before .before .before .before .before .before .before .before .before .before .args .verticals .now)) 4 (c .loop-test .taken) (c .before .before .before .before .before .before .before .before .before .before .good .1 .1 .1 .0 .1)
+mul-j c =
+    let start = c .before .before .before .before .before .before .before .before .before .before in
+    scaled-fits (c .before .loop .k) (length (start .args .verticals .now)) 4 (c .loop-test .taken) (start .good .1 .1 .1 .0 .1)
 
 shared-slice-read-j : tie.Need-shared-slice-read-j Inv-loop μ-loop
 shared-slice-read-j c = c .before .loop-test .taken
@@ -92,28 +100,40 @@ cast-j : tie.Need-cast-j Inv-loop μ-loop
 cast-j c = omega (arith, c .shared-slice-known5 .given (c .before .before .loop .k))
 
 vertical-at-requires : tie.Need-vertical-at-requires Inv-loop μ-loop
-vertical-at-requires c κs = let m = vertical (c .before .before .before .before .before .before .before .before .before .before .before .args .join) (rulingAt (c .before .before .before .before .before .before .before .before .before .before .before .args .rects .now) (c .before .before .before .before .before .before .before .before .before .before .before .args .directions .now) (c .before .before .before .before .before .before .before .before .before .before .before .args .chosen .now)) (length (c .before .before .before .before .before .before .before .before .before .before .before .args .chosen .now)) (c .before .before .loop .k) (c .before .before .before .before .before .before .before .before .before .before .before .pre .0 .2) (c .before .loop-test .taken) in (c .before .before .before .before .before .before .before .before .before .before .before .pre .0 .1, m .0, m .1)
+vertical-at-requires c κs =
+    let start = c .before .before .before .before .before .before .before .before .before .before .before in
+    let m = vertical (start .args .join) (rulingAt (start .args .rects .now) (start .args .directions .now) (start .args .chosen .now)) (length (start .args .chosen .now)) (c .before .before .loop .k) (start .pre .0 .2) (c .before .loop-test .taken) in (start .pre .0 .1, m .0, m .1)
 
 touches-requires : tie.Need-touches-requires Inv-loop μ-loop
-touches-requires c κs = let m = crossing (c .before .before .before .before .before .before .before .before .before .before .before .before .args .join) (rulingAt (c .before .before .before .before .before .before .before .before .before .before .before .before .args .rects .now) (c .before .before .before .before .before .before .before .before .before .before .before .before .args .directions .now) (c .before .before .before .before .before .before .before .before .before .before .before .before .args .chosen .now)) (length (c .before .before .before .before .before .before .before .before .before .before .before .before .args .chosen .now)) (c .before .before .before .before .before .before .ruling-at .ensures) (c .before .before .before .loop .inv .lies) (c .vertical-at .ensures) (vertical (c .before .before .before .before .before .before .before .before .before .before .before .before .args .join) (rulingAt (c .before .before .before .before .before .before .before .before .before .before .before .before .args .rects .now) (c .before .before .before .before .before .before .before .before .before .before .before .before .args .directions .now) (c .before .before .before .before .before .before .before .before .before .before .before .before .args .chosen .now)) (length (c .before .before .before .before .before .before .before .before .before .before .before .before .args .chosen .now)) (c .before .before .before .loop .k) (c .before .before .before .before .before .before .before .before .before .before .before .before .pre .0 .2) (c .before .before .loop-test .taken) .1) in (c .before .before .before .before .before .before .before .before .before .before .before .before .pre .0 .0, m .0, m .1)
+touches-requires c κs =
+    let start = c .before .before .before .before .before .before .before .before .before .before .before .before in
+    let m = crossing (start .args .join) (rulingAt (start .args .rects .now) (start .args .directions .now) (start .args .chosen .now)) (length (start .args .chosen .now)) (c .before .before .before .before .before .before .ruling-at .ensures) (c .before .before .before .loop .inv .lies) (c .vertical-at .ensures) (vertical (start .args .join) (rulingAt (start .args .rects .now) (start .args .directions .now) (start .args .chosen .now)) (length (start .args .chosen .now)) (c .before .before .before .loop .k) (start .pre .0 .2) (c .before .before .loop-test .taken) .1) in (start .pre .0 .0, m .0, m .1)
 
 join-if-requires : tie.Need-join-if-requires Inv-loop μ-loop
-join-if-requires c κs = (c .before .before .before .before .before .loop .inv .seen .parents, c .before .before .before .before .before .before .before .before .before .before .before .before .before .before .pre .0 .3, vertical (c .before .before .before .before .before .before .before .before .before .before .before .before .before .before .args .join) (rulingAt (c .before .before .before .before .before .before .before .before .before .before .before .before .before .before .args .rects .now) (c .before .before .before .before .before .before .before .before .before .before .before .before .before .before .args .directions .now) (c .before .before .before .before .before .before .before .before .before .before .before .before .before .before .args .chosen .now)) (length (c .before .before .before .before .before .before .before .before .before .before .before .before .before .before .args .chosen .now)) (c .before .before .before .before .before .loop .k) (c .before .before .before .before .before .before .before .before .before .before .before .before .before .before .pre .0 .2) (c .before .before .before .before .loop-test .taken) .0)
+join-if-requires c κs =
+    let start = c .before .before .before .before .before .before .before .before .before .before .before .before .before .before in
+    (c .before .before .before .before .before .loop .inv .seen .parents, start .pre .0 .3, vertical (start .args .join) (rulingAt (start .args .rects .now) (start .args .directions .now) (start .args .chosen .now)) (length (start .args .chosen .now)) (c .before .before .before .before .before .loop .k) (start .pre .0 .2) (c .before .before .before .before .loop-test .taken) .0)
 
 add-k : tie.Need-add-k Inv-loop μ-loop
-add-k c = omega (arith, c .before .before .before .before .before .before .before .loop-test .taken, few (c .before .before .before .before .before .before .before .before .before .before .before .before .before .before .before .before .before .args .join) (rulingAt (c .before .before .before .before .before .before .before .before .before .before .before .before .before .before .before .before .before .args .rects .now) (c .before .before .before .before .before .before .before .before .before .before .before .before .before .before .before .before .before .args .directions .now) (c .before .before .before .before .before .before .before .before .before .before .before .before .before .before .before .before .before .args .chosen .now)) (length (c .before .before .before .before .before .before .before .before .before .before .before .before .before .before .before .before .before .args .chosen .now)) (c .before .before .before .before .before .before .before .before .before .before .before .before .before .before .before .before .before .pre .0 .2), c .before .before .before .before .before .before .before .before .before .before .before .before .before .before .before .before .before .pre .0 .1 .few)
+add-k c =
+    let start = c .before .before .before .before .before .before .before .before .before .before .before .before .before .before .before .before .before in
+    omega (arith, c .before .before .before .before .before .before .before .loop-test .taken, few (start .args .join) (rulingAt (start .args .rects .now) (start .args .directions .now) (start .args .chosen .now)) (length (start .args .chosen .now)) (start .pre .0 .2), start .pre .0 .1 .few)
 
 loop-less : tie.Need-loop-less Inv-loop μ-loop
 loop-less c = omega (arith, c .before .before .before .before .before .before .before .loop-test .taken)
 
 loop-again : tie.Need-loop-again Inv-loop μ-loop
-loop-again c = turn (c .before .before .before .before .before .before .before .before .before .before .before .before .before .before .before .before .before .args .join) (rulingAt (c .before .before .before .before .before .before .before .before .before .before .before .before .before .before .before .before .before .args .rects .now) (c .before .before .before .before .before .before .before .before .before .before .before .before .before .before .before .before .before .args .directions .now) (c .before .before .before .before .before .before .before .before .before .before .before .before .before .before .before .before .before .args .chosen .now)) (length (c .before .before .before .before .before .before .before .before .before .before .before .before .before .before .before .before .before .args .chosen .now)) (c .before .before .before .before .before .before .before .before .loop .inv) (c .before .before .before .before .before .before .before .before .before .before .before .before .before .before .before .before .before .pre .0 .3) (c .before .before .before .before .before .before .before .before .before .before .before .before .before .before .before .before .before .pre .0 .2) (c .before .before .before .before .before .before .before .loop-test .taken) (c .before .before .before .before .before .vertical-at .ensures) (c .before .before .before .before .touches .ensures) (c .before .before .join-if .kept .0) (c .before .before .join-if .ensures)
+loop-again c =
+    let start = c .before .before .before .before .before .before .before .before .before .before .before .before .before .before .before .before .before in
+    turn (start .args .join) (rulingAt (start .args .rects .now) (start .args .directions .now) (start .args .chosen .now)) (length (start .args .chosen .now)) (c .before .before .before .before .before .before .before .before .loop .inv) (start .pre .0 .3) (start .pre .0 .2) (c .before .before .before .before .before .before .before .loop-test .taken) (c .before .before .before .before .before .vertical-at .ensures) (c .before .before .before .before .touches .ensures) (c .before .before .join-if .kept .0) (c .before .before .join-if .ensures)
 
 same-length : tie.Need-same-length Inv-loop μ-loop
 same-length c = c .before .loop .inv .long
 
 returns-2 : tie.Need-returns-2 Inv-loop μ-loop
-returns-2 c = done (c .before .before .before .before .before .before .before .before .before .before .args .join) (rulingAt (c .before .before .before .before .before .before .before .before .before .before .args .rects .now) (c .before .before .before .before .before .before .before .before .before .before .args .directions .now) (c .before .before .before .before .before .before .before .before .before .before .args .chosen .now)) (length (c .before .before .before .before .before .before .before .before .before .before .args .chosen .now)) (c .before .loop .inv) (c .before .before .before .before .before .before .before .before .before .before .pre .0 .2) (c .loop-test .left)
+returns-2 c =
+    let start = c .before .before .before .before .before .before .before .before .before .before in
+    done (start .args .join) (rulingAt (start .args .rects .now) (start .args .directions .now) (start .args .chosen .now)) (length (start .args .chosen .now)) (c .before .loop .inv) (start .pre .0 .2) (c .loop-test .left)
 
 pub join-row-spec : {M : Type 1} → statement M
 join-row-spec =

@@ -53,10 +53,14 @@ abbrev μ-loop : tie.MeasureT-loop
 μ-loop rects directions chosen set join joined₀ k₀ joined k = length set - k
 
 loop-holds : tie.Need-loop-holds Inv-loop μ-loop
-loop-holds c = begun (c .before .before .before .before .args .join) (rulingAt (c .before .before .before .before .args .rects .now) (c .before .before .before .before .args .directions .now) (c .before .before .before .before .args .chosen .now)) (c .before .before .before .before .args .set .now)
+loop-holds c =
+    let start = c .before .before .before .before in
+    begun (start .args .join) (rulingAt (start .args .rects .now) (start .args .directions .now) (start .args .chosen .now)) (start .args .set .now)
 
 mul-joined-of : tie.Need-mul-joined-of Inv-loop μ-loop
-mul-joined-of c = scaled-fits (c .before .loop .k) (length (c .before .before .before .before .before .before .args .set .now)) 4 (c .loop-test .taken) (c .before .before .before .before .before .before .good .1 .1 .1 .0 .1)
+mul-joined-of c =
+    let start = c .before .before .before .before .before .before in
+    scaled-fits (c .before .loop .k) (length (start .args .set .now)) 4 (c .loop-test .taken) (start .good .1 .1 .1 .0 .1)
 
 shared-slice-read-joined-of : tie.Need-shared-slice-read-joined-of Inv-loop μ-loop
 shared-slice-read-joined-of c = c .before .loop-test .taken
@@ -65,22 +69,32 @@ cast-joined-of : tie.Need-cast-joined-of Inv-loop μ-loop
 cast-joined-of c = omega (arith, c .shared-slice-known5 .given (c .before .before .loop .k))
 
 joined-of-requires : tie.Need-joined-of-requires Inv-loop μ-loop
-joined-of-requires c κs = (c .before .before .before .before .before .before .before .pre .0, c .before .before .before .before .before .before .before .pre .1, c .before .before .before .before .before .before .before .pre .2, member-within (c .before .before .before .before .before .before .before .args .set .now) (c .before .before .before .before .before .before .before .pre .2) (c .before .before .loop .k) (c .before .loop-test .taken))
+joined-of-requires c κs =
+    let start = c .before .before .before .before .before .before .before in
+    (start .pre .0, start .pre .1, start .pre .2, member-within (start .args .set .now) (start .pre .2) (c .before .before .loop .k) (c .before .loop-test .taken))
 
 add-joined : tie.Need-add-joined Inv-loop μ-loop
-add-joined c = omega (arith, c .before .before .before .loop .inv .low, c .before .before .loop-test .taken, c .before .before .before .before .before .before .before .before .pre .2 .short, c .before .before .before .before .before .before .before .before .pre .1 .few, few (c .before .before .before .before .before .before .before .before .args .join) (rulingAt (c .before .before .before .before .before .before .before .before .args .rects .now) (c .before .before .before .before .before .before .before .before .args .directions .now) (c .before .before .before .before .before .before .before .before .args .chosen .now)) (c .before .before .before .before .before .before .before .before .args .set .now) (getD (c .before .before .before .before .before .before .before .before .args .set .now) (c .before .before .before .loop .k) 0) (c .joined-of .ensures))
+add-joined c =
+    let start = c .before .before .before .before .before .before .before .before in
+    omega (arith, c .before .before .before .loop .inv .low, c .before .before .loop-test .taken, start .pre .2 .short, start .pre .1 .few, few (start .args .join) (rulingAt (start .args .rects .now) (start .args .directions .now) (start .args .chosen .now)) (start .args .set .now) (getD (start .args .set .now) (c .before .before .before .loop .k) 0) (c .joined-of .ensures))
 
 add-k : tie.Need-add-k Inv-loop μ-loop
-add-k c = omega (arith, c .before .before .loop-test .taken, c .before .before .before .before .before .before .before .before .pre .2 .short, c .before .before .before .before .before .before .before .before .pre .1 .few)
+add-k c =
+    let start = c .before .before .before .before .before .before .before .before in
+    omega (arith, c .before .before .loop-test .taken, start .pre .2 .short, start .pre .1 .few)
 
 loop-less : tie.Need-loop-less Inv-loop μ-loop
 loop-less c = omega (arith, c .before .before .loop-test .taken)
 
 loop-again : tie.Need-loop-again Inv-loop μ-loop
-loop-again c = turn (c .before .before .before .before .before .before .before .before .args .join) (rulingAt (c .before .before .before .before .before .before .before .before .args .rects .now) (c .before .before .before .before .before .before .before .before .args .directions .now) (c .before .before .before .before .before .before .before .before .args .chosen .now)) (c .before .before .before .before .before .before .before .before .args .set .now) (c .before .before .before .loop .inv) (c .before .before .loop-test .taken) (c .joined-of .ensures)
+loop-again c =
+    let start = c .before .before .before .before .before .before .before .before in
+    turn (start .args .join) (rulingAt (start .args .rects .now) (start .args .directions .now) (start .args .chosen .now)) (start .args .set .now) (c .before .before .before .loop .inv) (c .before .before .loop-test .taken) (c .joined-of .ensures)
 
 returns : tie.Need-returns Inv-loop μ-loop
-returns c = done (c .before .before .before .before .before .before .args .join) (rulingAt (c .before .before .before .before .before .before .args .rects .now) (c .before .before .before .before .before .before .args .directions .now) (c .before .before .before .before .before .before .args .chosen .now)) (c .before .before .before .before .before .before .args .set .now) (c .before .loop .inv) (c .loop-test .left)
+returns c =
+    let start = c .before .before .before .before .before .before in
+    done (start .args .join) (rulingAt (start .args .rects .now) (start .args .directions .now) (start .args .chosen .now)) (start .args .set .now) (c .before .loop .inv) (c .loop-test .left)
 
 pub joined-ends-spec : {M : Type 1} → statement M
 joined-ends-spec =

@@ -31,13 +31,17 @@ abbrev μ-loop : tie.MeasureT-loop
 μ-loop rects directions chosen set join a end k₀ k = k
 
 loop-holds : tie.Need-loop-holds Inv-loop μ-loop
-loop-holds c = behind-begin (by (c .before .before .before .before .args .join) (rulingAt (c .before .before .before .before .args .rects .now) (c .before .before .before .before .args .directions .now) (c .before .before .before .before .args .chosen .now)) (c .before .before .before .before .args .a) (c .before .before .before .before .args .end)) (c .before .before .before .before .args .set .now)
+loop-holds c =
+    let start = c .before .before .before .before in
+    behind-begin (by (start .args .join) (rulingAt (start .args .rects .now) (start .args .directions .now) (start .args .chosen .now)) (start .args .a) (start .args .end)) (start .args .set .now)
 
 sub-k : tie.Need-sub-k Inv-loop μ-loop
 sub-k c = omega (arith, c .loop-test .taken)
 
 mul-joined-by : tie.Need-mul-joined-by Inv-loop μ-loop
-mul-joined-by c = scaled-fits (c .before .loop .k - 1) (length (c .before .before .before .before .before .before .args .set .now)) 4 (place (c .before .loop .inv) (c .loop-test .taken)) (c .before .before .before .before .before .before .good .1 .1 .1 .0 .1)
+mul-joined-by c =
+    let start = c .before .before .before .before .before .before in
+    scaled-fits (c .before .loop .k - 1) (length (start .args .set .now)) 4 (place (c .before .loop .inv) (c .loop-test .taken)) (start .good .1 .1 .1 .0 .1)
 
 shared-slice-read-joined-by : tie.Need-shared-slice-read-joined-by Inv-loop μ-loop
 shared-slice-read-joined-by c = place (c .before .before .loop .inv) (c .before .loop-test .taken)
@@ -46,10 +50,14 @@ cast-joined-by : tie.Need-cast-joined-by Inv-loop μ-loop
 cast-joined-by c = omega (arith, c .shared-slice-known5 .given (c .before .before .loop .k - 1))
 
 joined-by-requires : tie.Need-joined-by-requires Inv-loop μ-loop
-joined-by-requires c κs = (c .before .before .before .before .before .before .before .pre .0, c .before .before .before .before .before .before .before .pre .1, member-within (c .before .before .before .before .before .before .before .args .set .now) (c .before .before .before .before .before .before .before .pre .2) (c .before .before .loop .k - 1) (place (c .before .before .loop .inv) (c .before .loop-test .taken)))
+joined-by-requires c κs =
+    let start = c .before .before .before .before .before .before .before in
+    (start .pre .0, start .pre .1, member-within (start .args .set .now) (start .pre .2) (c .before .before .loop .k - 1) (place (c .before .before .loop .inv) (c .before .loop-test .taken)))
 
 returns : tie.Need-returns Inv-loop μ-loop
-returns c = sym (any-found (by (c .before .before .before .before .before .before .before .before .before .args .join) (rulingAt (c .before .before .before .before .before .before .before .before .before .args .rects .now) (c .before .before .before .before .before .before .before .before .before .args .directions .now) (c .before .before .before .before .before .before .before .before .before .args .chosen .now)) (c .before .before .before .before .before .before .before .before .before .args .a) (c .before .before .before .before .before .before .before .before .before .args .end)) (c .before .before .before .before .before .before .before .before .before .args .set .now) (c .before .before .before .before .loop .k - 1) (place (c .before .before .before .before .loop .inv) (c .before .before .before .loop-test .taken)) (sym (c .before .joined-by .ensures) ∙ c .if1 .taken))
+returns c =
+    let start = c .before .before .before .before .before .before .before .before .before in
+    sym (any-found (by (start .args .join) (rulingAt (start .args .rects .now) (start .args .directions .now) (start .args .chosen .now)) (start .args .a) (start .args .end)) (start .args .set .now) (c .before .before .before .before .loop .k - 1) (place (c .before .before .before .before .loop .inv) (c .before .before .before .loop-test .taken)) (sym (c .before .joined-by .ensures) ∙ c .if1 .taken))
 
 loop-less : tie.Need-loop-less Inv-loop μ-loop
 loop-less c = omega (arith, c .before .before .before .loop-test .taken)
@@ -58,7 +66,9 @@ loop-again : tie.Need-loop-again Inv-loop μ-loop
 loop-again c = turn (c .before .before .before .before .loop .inv) (c .before .before .before .loop-test .taken) (sym (c .before .joined-by .ensures) ∙ c .if1 .left)
 
 returns-2 : tie.Need-returns-2 Inv-loop μ-loop
-returns-2 c = behind-end (by (c .before .before .before .before .before .before .args .join) (rulingAt (c .before .before .before .before .before .before .args .rects .now) (c .before .before .before .before .before .before .args .directions .now) (c .before .before .before .before .before .before .args .chosen .now)) (c .before .before .before .before .before .before .args .a) (c .before .before .before .before .before .before .args .end)) (c .before .before .before .before .before .before .args .set .now) (c .before .loop .inv) (omega (arith, c .loop-test .left))
+returns-2 c =
+    let start = c .before .before .before .before .before .before in
+    behind-end (by (start .args .join) (rulingAt (start .args .rects .now) (start .args .directions .now) (start .args .chosen .now)) (start .args .a) (start .args .end)) (start .args .set .now) (c .before .loop .inv) (omega (arith, c .loop-test .left))
 
 pub joined-from-back-spec : {M : Type 1} → statement M
 joined-from-back-spec =

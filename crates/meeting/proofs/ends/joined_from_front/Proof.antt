@@ -23,10 +23,14 @@ abbrev μ-loop : tie.MeasureT-loop
 μ-loop rects directions chosen set join a end k₀ k = length set - k
 
 loop-holds : tie.Need-loop-holds Inv-loop μ-loop
-loop-holds c = ahead-begin (by (c .before .before .before .before .args .join) (rulingAt (c .before .before .before .before .args .rects .now) (c .before .before .before .before .args .directions .now) (c .before .before .before .before .args .chosen .now)) (c .before .before .before .before .args .a) (c .before .before .before .before .args .end)) (c .before .before .before .before .args .set .now)
+loop-holds c =
+    let start = c .before .before .before .before in
+    ahead-begin (by (start .args .join) (rulingAt (start .args .rects .now) (start .args .directions .now) (start .args .chosen .now)) (start .args .a) (start .args .end)) (start .args .set .now)
 
 mul-joined-by : tie.Need-mul-joined-by Inv-loop μ-loop
-mul-joined-by c = scaled-fits (c .before .loop .k) (length (c .before .before .before .before .before .before .args .set .now)) 4 (c .loop-test .taken) (c .before .before .before .before .before .before .good .1 .1 .1 .0 .1)
+mul-joined-by c =
+    let start = c .before .before .before .before .before .before in
+    scaled-fits (c .before .loop .k) (length (start .args .set .now)) 4 (c .loop-test .taken) (start .good .1 .1 .1 .0 .1)
 
 shared-slice-read-joined-by : tie.Need-shared-slice-read-joined-by Inv-loop μ-loop
 shared-slice-read-joined-by c = c .before .loop-test .taken
@@ -35,22 +39,32 @@ cast-joined-by : tie.Need-cast-joined-by Inv-loop μ-loop
 cast-joined-by c = omega (arith, c .shared-slice-known5 .given (c .before .before .loop .k))
 
 joined-by-requires : tie.Need-joined-by-requires Inv-loop μ-loop
-joined-by-requires c κs = (c .before .before .before .before .before .before .before .pre .0, c .before .before .before .before .before .before .before .pre .1, member-within (c .before .before .before .before .before .before .before .args .set .now) (c .before .before .before .before .before .before .before .pre .2) (c .before .before .loop .k) (c .before .loop-test .taken))
+joined-by-requires c κs =
+    let start = c .before .before .before .before .before .before .before in
+    (start .pre .0, start .pre .1, member-within (start .args .set .now) (start .pre .2) (c .before .before .loop .k) (c .before .loop-test .taken))
 
 returns : tie.Need-returns Inv-loop μ-loop
-returns c = sym (any-found (by (c .before .before .before .before .before .before .before .before .before .args .join) (rulingAt (c .before .before .before .before .before .before .before .before .before .args .rects .now) (c .before .before .before .before .before .before .before .before .before .args .directions .now) (c .before .before .before .before .before .before .before .before .before .args .chosen .now)) (c .before .before .before .before .before .before .before .before .before .args .a) (c .before .before .before .before .before .before .before .before .before .args .end)) (c .before .before .before .before .before .before .before .before .before .args .set .now) (c .before .before .before .before .loop .k) (c .before .before .before .loop-test .taken) (sym (c .before .joined-by .ensures) ∙ c .if1 .taken))
+returns c =
+    let start = c .before .before .before .before .before .before .before .before .before in
+    sym (any-found (by (start .args .join) (rulingAt (start .args .rects .now) (start .args .directions .now) (start .args .chosen .now)) (start .args .a) (start .args .end)) (start .args .set .now) (c .before .before .before .before .loop .k) (c .before .before .before .loop-test .taken) (sym (c .before .joined-by .ensures) ∙ c .if1 .taken))
 
 add-k : tie.Need-add-k Inv-loop μ-loop
-add-k c = omega (arith, c .before .before .before .loop-test .taken, c .before .before .before .before .before .before .before .before .before .pre .2 .short, c .before .before .before .before .before .before .before .before .before .pre .1 .few)
+add-k c =
+    let start = c .before .before .before .before .before .before .before .before .before in
+    omega (arith, c .before .before .before .loop-test .taken, start .pre .2 .short, start .pre .1 .few)
 
 loop-less : tie.Need-loop-less Inv-loop μ-loop
 loop-less c = omega (arith, c .before .before .before .loop-test .taken)
 
 loop-again : tie.Need-loop-again Inv-loop μ-loop
-loop-again c = ahead-turn (by (c .before .before .before .before .before .before .before .before .before .args .join) (rulingAt (c .before .before .before .before .before .before .before .before .before .args .rects .now) (c .before .before .before .before .before .before .before .before .before .args .directions .now) (c .before .before .before .before .before .before .before .before .before .args .chosen .now)) (c .before .before .before .before .before .before .before .before .before .args .a) (c .before .before .before .before .before .before .before .before .before .args .end)) (c .before .before .before .before .before .before .before .before .before .args .set .now) (c .before .before .before .before .loop .inv) (c .before .before .before .loop-test .taken) (sym (c .before .joined-by .ensures) ∙ c .if1 .left)
+loop-again c =
+    let start = c .before .before .before .before .before .before .before .before .before in
+    ahead-turn (by (start .args .join) (rulingAt (start .args .rects .now) (start .args .directions .now) (start .args .chosen .now)) (start .args .a) (start .args .end)) (start .args .set .now) (c .before .before .before .before .loop .inv) (c .before .before .before .loop-test .taken) (sym (c .before .joined-by .ensures) ∙ c .if1 .left)
 
 returns-2 : tie.Need-returns-2 Inv-loop μ-loop
-returns-2 c = ahead-end (by (c .before .before .before .before .before .before .args .join) (rulingAt (c .before .before .before .before .before .before .args .rects .now) (c .before .before .before .before .before .before .args .directions .now) (c .before .before .before .before .before .before .args .chosen .now)) (c .before .before .before .before .before .before .args .a) (c .before .before .before .before .before .before .args .end)) (c .before .before .before .before .before .before .args .set .now) (c .before .loop .inv) (c .loop-test .left)
+returns-2 c =
+    let start = c .before .before .before .before .before .before in
+    ahead-end (by (start .args .join) (rulingAt (start .args .rects .now) (start .args .directions .now) (start .args .chosen .now)) (start .args .a) (start .args .end)) (start .args .set .now) (c .before .loop .inv) (c .loop-test .left)
 
 pub joined-from-front-spec : {M : Type 1} → statement M
 joined-from-front-spec =

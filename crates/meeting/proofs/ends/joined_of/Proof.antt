@@ -35,7 +35,9 @@ both-requires : tie.Need-both-requires
 both-requires c κs = search needs
 
 returns : tie.Need-returns
-returns c = counted (c .before .before .before .before .before .before .before .before .args .join) (rulingAt (c .before .before .before .before .before .before .before .before .args .rects .now) (c .before .before .before .before .before .before .before .before .args .directions .now) (c .before .before .before .before .before .before .before .before .args .chosen .now)) (c .before .before .before .before .before .before .before .before .args .set .now) (c .before .before .before .before .before .before .before .before .args .i) (c .before .before .before .ruling-at .ensures) (c .before .before .joined-from-front .ensures) (c .before .joined-from-back .ensures) (c .both .ensures)
+returns c =
+    let start = c .before .before .before .before .before .before .before .before in
+    counted (start .args .join) (rulingAt (start .args .rects .now) (start .args .directions .now) (start .args .chosen .now)) (start .args .set .now) (start .args .i) (c .before .before .before .ruling-at .ensures) (c .before .before .joined-from-front .ensures) (c .before .joined-from-back .ensures) (c .both .ensures)
 
 pub joined-of-spec : {M : Type 1} → statement M
 joined-of-spec =

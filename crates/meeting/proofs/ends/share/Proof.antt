@@ -35,16 +35,24 @@ joined-ends-requires : tie.Need-joined-ends-requires
 joined-ends-requires c κs = c .before .before .before .before .pre
 
 int-to-float-result : tie.Need-int-to-float-result
-int-to-float-result c = as-float (c .before .joined-ends .result) (small (c .before .before .before .before .before .before .args .join) (rulingAt (c .before .before .before .before .before .before .args .rects .now) (c .before .before .before .before .before .before .args .directions .now) (c .before .before .before .before .before .before .args .chosen .now)) (c .before .before .before .before .before .before .args .set .now) (c .before .joined-ends .ensures) (omega (arith, c .before .before .before .before .before .before .pre .2 .short, c .before .before .before .before .before .before .pre .1 .few)))
+int-to-float-result c =
+    let start = c .before .before .before .before .before .before in
+    as-float (c .before .joined-ends .result) (small (start .args .join) (rulingAt (start .args .rects .now) (start .args .directions .now) (start .args .chosen .now)) (start .args .set .now) (c .before .joined-ends .ensures) (omega (arith, start .pre .2 .short, start .pre .1 .few)))
 
 mul-result : tie.Need-mul-result
-mul-result c = omega (arith, c .before .before .before .before .before .before .pre .2 .short, c .before .before .before .before .before .before .pre .1 .few)
+mul-result c =
+    let start = c .before .before .before .before .before .before in
+    omega (arith, start .pre .2 .short, start .pre .1 .few)
 
 int-to-float-result-2 : tie.Need-int-to-float-result-2
-int-to-float-result-2 c = as-float (2 * length (c .before .before .before .before .before .before .before .args .set .now)) (omega (arith, c .before .before .before .before .before .before .before .pre .2 .short, c .before .before .before .before .before .before .before .pre .1 .few))
+int-to-float-result-2 c =
+    let start = c .before .before .before .before .before .before .before in
+    as-float (2 * length (start .args .set .now)) (omega (arith, start .pre .2 .short, start .pre .1 .few))
 
 returns : tie.Need-returns
-returns c = one-division (c .before .before .before .before .before .before .before .args .join) (rulingAt (c .before .before .before .before .before .before .before .args .rects .now) (c .before .before .before .before .before .before .before .args .directions .now) (c .before .before .before .before .before .before .before .args .chosen .now)) (c .before .before .before .before .before .before .before .args .set .now) (c .before .before .joined-ends .ensures)
+returns c =
+    let start = c .before .before .before .before .before .before .before in
+    one-division (start .args .join) (rulingAt (start .args .rects .now) (start .args .directions .now) (start .args .chosen .now)) (start .args .set .now) (c .before .before .joined-ends .ensures)
 
 pub share-spec : {M : Type 1} → statement M
 share-spec =

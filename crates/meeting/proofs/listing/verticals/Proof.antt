@@ -40,7 +40,9 @@ abbrev μ-loop : tie.MeasureT-loop
 μ-loop rects directions chosen list₀ n count₀ i₀ list count i = n - i
 
 loop-holds : tie.Need-loop-holds Inv-loop μ-loop
-loop-holds c = gather-begin _ _ (below (length (c .before .before .before .before .args .chosen .now))) (c .before .before .before .before .args .list .now)
+loop-holds c =
+    let start = c .before .before .before .before in
+    gather-begin _ _ (below (length (start .args .chosen .now))) (start .args .list .now)
 
 ruling-at-requires : tie.Need-ruling-at-requires Inv-loop μ-loop
 ruling-at-requires c κs = (c .before .before .before .before .before .before .pre .0, c .loop-test .taken)
@@ -64,13 +66,17 @@ loop-less : tie.Need-loop-less Inv-loop μ-loop
 loop-less c = omega (arith, c .before .before .before .loop-test .taken)
 
 loop-again : tie.Need-loop-again Inv-loop μ-loop
-loop-again c = turn (rulingAt (c .before .before .before .before .before .before .before .before .before .args .rects .now) (c .before .before .before .before .before .before .before .before .before .args .directions .now) (c .before .before .before .before .before .before .before .before .before .args .chosen .now)) (length (c .before .before .before .before .before .before .before .before .before .args .chosen .now)) (c .before .before .before .before .before .before .before .before .before .args .list .now) (c .before .before .before .before .loop .inv) (c .before .before .before .loop-test .taken) (c .before .before .before .before .before .before .before .before .before .pre .1) (c .before .before .ruling-at .ensures) (c .next .ensures)
+loop-again c =
+    let start = c .before .before .before .before .before .before .before .before .before in
+    turn (rulingAt (start .args .rects .now) (start .args .directions .now) (start .args .chosen .now)) (length (start .args .chosen .now)) (start .args .list .now) (c .before .before .before .before .loop .inv) (c .before .before .before .loop-test .taken) (start .pre .1) (c .before .before .ruling-at .ensures) (c .next .ensures)
 
 same-length : tie.Need-same-length Inv-loop μ-loop
 same-length c = c .before .loop .inv .long
 
 returns : tie.Need-returns Inv-loop μ-loop
-returns c = done (rulingAt (c .before .before .before .before .before .before .args .rects .now) (c .before .before .before .before .before .before .args .directions .now) (c .before .before .before .before .before .before .args .chosen .now)) (length (c .before .before .before .before .before .before .args .chosen .now)) (c .before .before .before .before .before .before .args .list .now) (c .before .loop .inv) (c .loop-test .left)
+returns c =
+    let start = c .before .before .before .before .before .before in
+    done (rulingAt (start .args .rects .now) (start .args .directions .now) (start .args .chosen .now)) (length (start .args .chosen .now)) (start .args .list .now) (c .before .loop .inv) (c .loop-test .left)
 
 pub verticals-spec : {M : Type 1} → statement M
 verticals-spec =

@@ -59,22 +59,34 @@ cast-place : tie.Need-cast-place
 cast-place c = omega (arith, c .shared-slice-known4 .given (c .before .before .before .before .args .j))
 
 mul-if1 : tie.Need-mul-if1
-mul-if1 c = scaled-fits (getD (c .before .before .before .before .args .chosen .now) (c .before .before .before .before .args .j) 0) (length (c .before .before .before .before .args .directions .now)) 4 (c .before .before .before .before .pre .1 .direction (c .before .before .before .before .args .j) (c .before .before .before .before .pre .2)) (c .before .before .before .before .good .1 .0 .1)
+mul-if1 c =
+    let start = c .before .before .before .before in
+    scaled-fits (getD (start .args .chosen .now) (start .args .j) 0) (length (start .args .directions .now)) 4 (start .pre .1 .direction (start .args .j) (start .pre .2)) (start .good .1 .0 .1)
 
 shared-slice-read-if1 : tie.Need-shared-slice-read-if1
-shared-slice-read-if1 c = c .before .before .before .before .before .pre .1 .direction (c .before .before .before .before .before .args .j) (c .before .before .before .before .before .pre .2)
+shared-slice-read-if1 c =
+    let start = c .before .before .before .before .before in
+    start .pre .1 .direction (start .args .j) (start .pre .2)
 
 returns : tie.Need-returns
-returns c = alike (c .before .before .before .before .before .before .before .args .join) (c .before .before .before .before .before .before .before .args .end) (c .before .before .before .before .before .before .before .args .a) (rectAt (c .before .before .before .before .before .before .before .args .rects .now) (getD (c .before .before .before .before .before .before .before .args .chosen .now) (c .before .before .before .before .before .before .before .args .j) 0)) (getD (c .before .before .before .before .before .before .before .args .directions .now) (getD (c .before .before .before .before .before .before .before .args .chosen .now) (c .before .before .before .before .before .before .before .args .j) 0) 0) (c .if1 .taken)
+returns c =
+    let start = c .before .before .before .before .before .before .before in
+    alike (start .args .join) (start .args .end) (start .args .a) (rectAt (start .args .rects .now) (getD (start .args .chosen .now) (start .args .j) 0)) (getD (start .args .directions .now) (getD (start .args .chosen .now) (start .args .j) 0) 0) (c .if1 .taken)
 
 ruling-at-requires : tie.Need-ruling-at-requires
-ruling-at-requires c κs = (c .before .before .before .before .before .before .before .pre .1, c .before .before .before .before .before .before .before .pre .2)
+ruling-at-requires c κs =
+    let start = c .before .before .before .before .before .before .before in
+    (start .pre .1, start .pre .2)
 
 joins-end-requires : tie.Need-joins-end-requires
-joins-end-requires c κs = (c .before .before .before .before .before .before .before .before .pre .0, across (c .before .before .before .before .before .before .before .before .args .a) (rectAt (c .before .before .before .before .before .before .before .before .args .rects .now) (getD (c .before .before .before .before .before .before .before .before .args .chosen .now) (c .before .before .before .before .before .before .before .before .args .j) 0)) (getD (c .before .before .before .before .before .before .before .before .args .directions .now) (getD (c .before .before .before .before .before .before .before .before .args .chosen .now) (c .before .before .before .before .before .before .before .before .args .j) 0) 0) (c .before .if1 .left) (c .ruling-at .ensures))
+joins-end-requires c κs =
+    let start = c .before .before .before .before .before .before .before .before in
+    (start .pre .0, across (start .args .a) (rectAt (start .args .rects .now) (getD (start .args .chosen .now) (start .args .j) 0)) (getD (start .args .directions .now) (getD (start .args .chosen .now) (start .args .j) 0) 0) (c .before .if1 .left) (c .ruling-at .ensures))
 
 returns-2 : tie.Need-returns-2
-returns-2 c = c .joins-end .ensures ∙ ap (λ (b : Segment). joinsEnd (c .before .before .before .before .before .before .before .before .before .args .join) (c .before .before .before .before .before .before .before .before .before .args .end) (c .before .before .before .before .before .before .before .before .before .args .a) b) (c .before .ruling-at .ensures)
+returns-2 c =
+    let start = c .before .before .before .before .before .before .before .before .before in
+    c .joins-end .ensures ∙ ap (λ (b : Segment). joinsEnd (start .args .join) (start .args .end) (start .args .a) b) (c .before .ruling-at .ensures)
 
 pub joined-by-spec : {M : Type 1} → statement M
 joined-by-spec =

@@ -20,19 +20,29 @@ cast-place : tie.Need-cast-place
 cast-place c = omega (arith, c .shared-slice-known4 .given (c .before .before .before .before .args .i))
 
 rect-at-requires : tie.Need-rect-at-requires
-rect-at-requires c κs = c .before .before .before .before .pre .0 .rect (c .before .before .before .before .args .i) (c .before .before .before .before .pre .1)
+rect-at-requires c κs =
+    let start = c .before .before .before .before in
+    start .pre .0 .rect (start .args .i) (start .pre .1)
 
 mul-segment-of : tie.Need-mul-segment-of
-mul-segment-of c = scaled-fits (getD (c .before .before .before .before .before .args .chosen .now) (c .before .before .before .before .before .args .i) 0) (length (c .before .before .before .before .before .args .directions .now)) 4 (c .before .before .before .before .before .pre .0 .direction (c .before .before .before .before .before .args .i) (c .before .before .before .before .before .pre .1)) (c .before .before .before .before .before .good .1 .0 .1)
+mul-segment-of c =
+    let start = c .before .before .before .before .before in
+    scaled-fits (getD (start .args .chosen .now) (start .args .i) 0) (length (start .args .directions .now)) 4 (start .pre .0 .direction (start .args .i) (start .pre .1)) (start .good .1 .0 .1)
 
 shared-slice-read-segment-of : tie.Need-shared-slice-read-segment-of
-shared-slice-read-segment-of c = c .before .before .before .before .before .before .pre .0 .direction (c .before .before .before .before .before .before .args .i) (c .before .before .before .before .before .before .pre .1)
+shared-slice-read-segment-of c =
+    let start = c .before .before .before .before .before .before in
+    start .pre .0 .direction (start .args .i) (start .pre .1)
 
 segment-of-requires : tie.Need-segment-of-requires
-segment-of-requires c κs = sums-fit (c .before .before .before .before .before .before .pre .0) (getD (c .before .before .before .before .before .before .args .chosen .now) (c .before .before .before .before .before .before .args .i) 0) (c .before .rect-at .result) (c .before .rect-at .ensures)
+segment-of-requires c κs =
+    let start = c .before .before .before .before .before .before in
+    sums-fit (start .pre .0) (getD (start .args .chosen .now) (start .args .i) 0) (c .before .rect-at .result) (c .before .rect-at .ensures)
 
 returns : tie.Need-returns
-returns c = c .segment-of .ensures ∙ ap (λ (r : Rect). segmentOf r (getD (c .before .before .before .before .before .before .before .args .directions .now) (getD (c .before .before .before .before .before .before .before .args .chosen .now) (c .before .before .before .before .before .before .before .args .i) 0) 0)) (c .before .before .rect-at .ensures)
+returns c =
+    let start = c .before .before .before .before .before .before .before in
+    c .segment-of .ensures ∙ ap (λ (r : Rect). segmentOf r (getD (start .args .directions .now) (getD (start .args .chosen .now) (start .args .i) 0) 0)) (c .before .before .rect-at .ensures)
 
 pub ruling-at-spec : {M : Type 1} → statement M
 ruling-at-spec =

@@ -42,13 +42,19 @@ cast-place : tie.Need-cast-place
 cast-place c = omega (arith, c .shared-slice-known4 .given (c .before .before .before .before .args .i))
 
 rect-at-requires : tie.Need-rect-at-requires
-rect-at-requires c κs = c .before .before .before .before .pre .0 .rect (c .before .before .before .before .args .i) (c .before .before .before .before .pre .1)
+rect-at-requires c κs =
+    let start = c .before .before .before .before in
+    start .pre .0 .rect (start .args .i) (start .pre .1)
 
 segment-of-requires : tie.Need-segment-of-requires
-segment-of-requires c κs = sums-fit (c .before .before .before .before .before .pre .0) (getD (c .before .before .before .before .before .args .chosen .now) (c .before .before .before .before .before .args .i) 0) (c .rect-at .result) (c .rect-at .ensures)
+segment-of-requires c κs =
+    let start = c .before .before .before .before .before in
+    sums-fit (start .pre .0) (getD (start .args .chosen .now) (start .args .i) 0) (c .rect-at .result) (c .rect-at .ensures)
 
 returns : tie.Need-returns
-returns c = same (c .before .before .before .before .before .before .args .rects .now) (getD (c .before .before .before .before .before .before .args .chosen .now) (c .before .before .before .before .before .before .args .i) 0) (getD (c .before .before .before .before .before .before .args .directions .now) (getD (c .before .before .before .before .before .before .args .chosen .now) (c .before .before .before .before .before .before .args .i) 0) 0) (c .before .before .before .before .before .before .pre .2) (c .segment-of .ensures) (c .before .rect-at .ensures)
+returns c =
+    let start = c .before .before .before .before .before .before in
+    same (start .args .rects .now) (getD (start .args .chosen .now) (start .args .i) 0) (getD (start .args .directions .now) (getD (start .args .chosen .now) (start .args .i) 0) 0) (start .pre .2) (c .segment-of .ensures) (c .before .rect-at .ensures)
 
 pub vertical-at-spec : {M : Type 1} → statement M
 vertical-at-spec =

@@ -56,7 +56,9 @@ same-length : tie.Need-same-length Inv-loop μ-loop
 same-length c = c .before .loop .inv .long ∙ c .before .before .before .before .begin .kept .0
 
 returns : tie.Need-returns Inv-loop μ-loop
-returns c = all-seen (Touch (c .before .before .before .before .before .before .before .before .args .pieces .now) (c .before .before .before .before .before .before .before .before .args .across) (c .before .before .before .before .before .before .before .before .args .gap)) (c .before .loop .inv .seen) (c .loop-test .left)
+returns c =
+    let start = c .before .before .before .before .before .before .before .before in
+    all-seen (Touch (start .args .pieces .now) (start .args .across) (start .args .gap)) (c .before .loop .inv .seen) (c .loop-test .left)
 
 pub join-all-spec : {M : Type 1} → statement M
 join-all-spec =

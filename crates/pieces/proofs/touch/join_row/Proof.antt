@@ -61,13 +61,16 @@ add-j : tie.Need-add-j Inv-loop μ-loop
 add-j c = omega (arith, c .before .before .before .before .pre .0)
 
 loop-holds : tie.Need-loop-holds Inv-loop μ-loop
-loop-holds c = record { later = omega arith; up-to = omega (arith, c .before .before .before .before .pre .0); long = refl; seen = c .before .before .before .before .pre .2 }
+loop-holds c =
+    let start = c .before .before .before .before in
+    record { later = omega arith; up-to = omega (arith, start .pre .0); long = refl; seen = start .pre .2 }
 
 touches-requires : tie.Need-touches-requires Inv-loop μ-loop
 touches-requires c κs =
-    let all = c .before .before .before .before .before .before .pre .1 in (
-      has-numbers (length (c .before .before .before .before .before .before .args .pieces .now)) (c .before .loop .j) (c .loop-test .taken),
-      read (all (c .before .before .before .before .before .before .args .i) (c .before .before .before .before .before .before .pre .0)) (c .before .before .before .rect-at .ensures),
+    let start = c .before .before .before .before .before .before in
+    let all = start .pre .1 in (
+      has-numbers (length (start .args .pieces .now)) (c .before .loop .j) (c .loop-test .taken),
+      read (all (start .args .i) (start .pre .0)) (c .before .before .before .rect-at .ensures),
       all (c .before .loop .j) (c .loop-test .taken),
       c .before .before .is-horizontal .ensures,
     )

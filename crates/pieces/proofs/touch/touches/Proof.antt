@@ -24,8 +24,9 @@ add-if1-2 c = search needs
 
 returns : tie.Need-returns
 returns c =
-    let a = c .before .before .before .before .args in
-    sym (touches-far (a .across) (a .gap) (a .a) (rectAt (a .pieces .now) (a .j)) (a .direction) (c .before .before .before .before .pre .3) (c .before .before .centre2 .ensures .0) (c .before .centre2-at .ensures .0) (c .if1 .taken))
+    let start = c .before .before .before .before in
+    let a = start .args in
+    sym (touches-far (a .across) (a .gap) (a .a) (rectAt (a .pieces .now) (a .j)) (a .direction) (start .pre .3) (c .before .before .centre2 .ensures .0) (c .before .centre2-at .ensures .0) (c .if1 .taken))
 
 add-past : tie.Need-add-past
 add-past c = search needs
@@ -50,8 +51,9 @@ start-requires c κs = search needs
 
 returns-2 : tie.Need-returns-2
 returns-2 c =
-    let a = c .before .before .before .before .before .before .before .before .before .args in
-    let pre = c .before .before .before .before .before .before .before .before .before .pre in
+    let start = c .before .before .before .before .before .before .before .before .before in
+    let a = start .args in
+    let pre = start .pre in
     sym (touches-past (a .across) (a .gap) (a .a) (rectAt (a .pieces .now) (a .j)) (a .direction) (pre .3) (pre .1) (pre .2) (c .before .before .before .before .before .before .before .centre2 .ensures .0) (c .before .before .before .before .before .before .centre2-at .ensures .0) (c .before .before .before .before .before .if1 .left)
     (c .before .before .before .before .end .ensures .0) (c .before .before .before .start-at .ensures .0) (c .before .before .end-at .ensures .0) (c .before .start .ensures .0) (c .if2 .taken))
 
@@ -66,8 +68,9 @@ agree-requires c κs = search needs
 
 returns-3 : tie.Need-returns-3
 returns-3 c =
-    let a = c .before .before .before .before .before .before .before .before .before .before .before .before .args in
-    let pre = c .before .before .before .before .before .before .before .before .before .before .before .before .pre in
+    let start = c .before .before .before .before .before .before .before .before .before .before .before .before in
+    let a = start .args in
+    let pre = start .pre in
     touches-near (a .across) (a .gap) (a .a) (rectAt (a .pieces .now) (a .j)) (a .direction) (pre .3) (pre .1) (pre .2) (c .before .before .before .before .before .before .before .before .before .before .centre2 .ensures .0) (c .before .before .before .before .before .before .before .before .before .centre2-at .ensures .0) (c .before .before .before .before .before .before .before .before .if1 .left)
     (c .before .before .before .before .before .before .before .end .ensures .0) (c .before .before .before .before .before .before .start-at .ensures .0) (c .before .before .before .before .before .end-at .ensures .0) (c .before .before .before .before .start .ensures .0) (c .before .before .before .if2 .left)
     (c .agree .ensures ∙ ap (Pieces.agree (a .direction)) (c .before .is-horizontal .ensures ∙ ap Pieces.horizontal (c .before .before .rect-at .ensures)))

@@ -60,13 +60,19 @@ members-of-requires : tie.Need-members-of-requires Inv-loop μ-loop
 members-of-requires c κs = tt
 
 bounding-requires : tie.Need-bounding-requires Inv-loop μ-loop
-bounding-requires c κs = placed (c .before .before .before .before .before .before .before .args .pieces .now) (c .before .before .before .before .before .before .before .args .members .now) (c .before .before .before .before .before .before .before .args .ends .now) (c .members-of .result .now) (c .before .before .before .before .before .before .before .pre .1) (c .before .loop-test .taken) (c .members-of .ensures)
+bounding-requires c κs =
+    let start = c .before .before .before .before .before .before .before in
+    placed (start .args .pieces .now) (start .args .members .now) (start .args .ends .now) (c .members-of .result .now) (start .pre .1) (c .before .loop-test .taken) (c .members-of .ensures)
 
 key-of-requires : tie.Need-key-of-requires Inv-loop μ-loop
-key-of-requires c κs = inside (c .before .before .before .before .before .before .before .before .args .pieces .now) (c .before .before .before .before .before .before .before .before .args .members .now) (c .before .before .before .before .before .before .before .before .args .ends .now) (c .before .members-of .result .now) (c .before .before .before .before .before .before .before .before .pre .0) (c .before .before .before .before .before .before .before .before .pre .1) (c .before .before .loop-test .taken) (c .before .members-of .ensures) (c .bounding .ensures)
+key-of-requires c κs =
+    let start = c .before .before .before .before .before .before .before .before in
+    inside (start .args .pieces .now) (start .args .members .now) (start .args .ends .now) (c .before .members-of .result .now) (start .pre .0) (start .pre .1) (c .before .before .loop-test .taken) (c .before .members-of .ensures) (c .bounding .ensures)
 
 mul-keys : tie.Need-mul-keys Inv-loop μ-loop
-mul-keys c = scaled-fits (c .before .before .before .before .loop .k) (length (c .before .before .before .before .before .before .before .before .before .args .keys .now)) 8 (omega (arith, c .before .before .before .loop-test .taken, c .before .before .before .before .before .before .before .before .before .pre .2)) (c .before .before .before .before .before .before .before .before .before .good .1 .1 .1 .1 .0 .1)
+mul-keys c =
+    let start = c .before .before .before .before .before .before .before .before .before in
+    scaled-fits (c .before .before .before .before .loop .k) (length (start .args .keys .now)) 8 (omega (arith, c .before .before .before .loop-test .taken, start .pre .2)) (start .good .1 .1 .1 .1 .0 .1)
 
 slice-write-keys : tie.Need-slice-write-keys Inv-loop μ-loop
 slice-write-keys c = omega (arith, c .before .before .before .loop-test .taken, c .before .before .before .before .before .before .before .before .before .pre .2, c .before .before .before .before .loop .inv .long)

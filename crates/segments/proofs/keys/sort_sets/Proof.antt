@@ -39,7 +39,9 @@ same-length-2 : tie.Need-same-length-2
 same-length-2 c = search needs
 
 returns : tie.Need-returns
-returns c = as-many (c .before .before .before .before .before .before .before .before .before .before .before .args .keys .now) (c .before .before .before .before .before .before .before .before .before .before .before .args .order .now) (c .before .before .before .before .before .before .before .before .before .before .before .args .count) (c .before .before .before .before .sort .ensures)
+returns c =
+    let start = c .before .before .before .before .before .before .before .before .before .before .before in
+    as-many (start .args .keys .now) (start .args .order .now) (start .args .count) (c .before .before .before .before .sort .ensures)
 
 pub sort-sets-spec : {M : Type 1} → statement M
 sort-sets-spec =

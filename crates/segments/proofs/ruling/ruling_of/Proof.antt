@@ -50,16 +50,24 @@ cast-rect-at : tie.Need-cast-rect-at
 cast-rect-at c = omega (arith, c .shared-slice-known4 .given 0)
 
 rect-at-requires : tie.Need-rect-at-requires
-rect-at-requires c κs = has-numbers (length (c .before .before .before .before .before .args .pieces .now)) (getD (c .before .before .before .before .before .args .set .now) 0 0) (first (c .before .before .before .before .before .args .pieces .now) (c .before .before .before .before .before .args .set .now) (c .before .before .before .before .before .pre .0) (c .before .before .before .before .before .pre .1) (c .before .before .before .before .before .pre .2))
+rect-at-requires c κs =
+    let start = c .before .before .before .before .before in
+    has-numbers (length (start .args .pieces .now)) (getD (start .args .set .now) 0 0) (first (start .args .pieces .now) (start .args .set .now) (start .pre .0) (start .pre .1) (start .pre .2))
 
 is-horizontal-requires : tie.Need-is-horizontal-requires
-is-horizontal-requires c κs = first-ordered (c .before .before .before .before .before .before .args .pieces .now) (c .before .before .before .before .before .before .args .set .now) (c .before .before .before .before .before .before .pre .0) (c .before .before .before .before .before .before .pre .1) (c .before .before .before .before .before .before .pre .2) (c .rect-at .ensures)
+is-horizontal-requires c κs =
+    let start = c .before .before .before .before .before .before in
+    first-ordered (start .args .pieces .now) (start .args .set .now) (start .pre .0) (start .pre .1) (start .pre .2) (c .rect-at .ensures)
 
 contrast-requires : tie.Need-contrast-requires
-contrast-requires c κs = on-picture (c .before .before .before .before .before .before .before .args .pieces .now) (c .before .before .before .before .before .before .before .args .set .now) (c .before .before .before .before .before .before .before .pre .0) (c .before .before .before .before .before .before .before .pre .1) (c .before .before .before .before .before .before .before .pre .2) (c .before .before .before .bounding .ensures)
+contrast-requires c κs =
+    let start = c .before .before .before .before .before .before .before in
+    on-picture (start .args .pieces .now) (start .args .set .now) (start .pre .0) (start .pre .1) (start .pre .2) (c .before .before .before .bounding .ensures)
 
 returns : tie.Need-returns
-returns c = made (c .before .before .before .before .before .before .before .before .args .raster .now) (c .before .before .before .before .before .before .before .before .args .w) (c .before .before .before .before .before .before .before .before .args .h) (c .before .before .before .before .before .before .before .before .args .pieces .now) (c .before .before .before .before .before .before .before .before .args .set .now) (c .before .before .before .before .bounding .ensures) (c .before .before .rect-at .ensures) (c .before .is-horizontal .ensures) (c .contrast .ensures .value)
+returns c =
+    let start = c .before .before .before .before .before .before .before .before in
+    made (start .args .raster .now) (start .args .w) (start .args .h) (start .args .pieces .now) (start .args .set .now) (c .before .before .before .before .bounding .ensures) (c .before .before .rect-at .ensures) (c .before .is-horizontal .ensures) (c .contrast .ensures .value)
 
 pub ruling-of-spec : {M : Type 1} → statement M
 ruling-of-spec =

@@ -14,13 +14,15 @@ use Rattle.segments.proofs.segments.rulings.Tie as tie
 
 list-sets-requires : tie.Need-list-sets-requires
 list-sets-requires c κs =
-    let R = c .before .before .before .before .before .before .before .before .before .before .before .before .before .before .before .before .pre in
-    (all-ordered (c .before .before .before .before .before .before .before .before .before .before .before .before .before .before .before .before .args .pieces .now) (R .picture .inside), record { room = R .work .parents; small = omega (arith, R .few) }, R .work .listed, R .work .listed-ends, R .work .work)
+    let start = c .before .before .before .before .before .before .before .before .before .before .before .before .before .before .before .before in
+    let R = start .pre in
+    (all-ordered (start .args .pieces .now) (R .picture .inside), record { room = R .work .parents; small = omega (arith, R .few) }, R .work .listed, R .work .listed-ends, R .work .work)
 
 order-sets-requires : tie.Need-order-sets-requires
 order-sets-requires c κs =
-    let R = c .before .before .before .before .before .before .before .before .before .before .before .before .before .before .before .before .before .before .before .before .before .before .before .before .before .before .before .before .before .before .pre in
-    let a = c .before .before .before .before .before .before .before .before .before .before .before .before .before .before .before .before .before .before .before .before .before .before .before .before .before .before .before .before .before .before .args in
+    let start = c .before .before .before .before .before .before .before .before .before .before .before .before .before .before .before .before .before .before .before .before .before .before .before .before .before .before .before .before .before .before in
+    let R = start .pre in
+    let a = start .args in
     let L = c .before .before .before .before .before .before .before .before .before .before .before .before .before .list-sets .ensures in (
       all-wider (a .pieces .now) (R .picture .narrow) (R .picture .low) (R .picture .inside),
       listed-parts (a .pieces .now) (a .across) (a .gap) L (R .work .listed) (R .work .listed-ends),
@@ -32,8 +34,9 @@ order-sets-requires c κs =
 
 write-sets-requires : tie.Need-write-sets-requires
 write-sets-requires c κs =
-    let R = c .before .before .before .before .before .before .before .before .before .before .before .before .before .before .before .before .before .before .before .before .before .before .before .before .before .before .before .before .before .before .before .before .before .before .before .before .before .before .before .before .before .before .pre in
-    let a = c .before .before .before .before .before .before .before .before .before .before .before .before .before .before .before .before .before .before .before .before .before .before .before .before .before .before .before .before .before .before .before .before .before .before .before .before .before .before .before .before .before .before .args in
+    let start = c .before .before .before .before .before .before .before .before .before .before .before .before .before .before .before .before .before .before .before .before .before .before .before .before .before .before .before .before .before .before .before .before .before .before .before .before .before .before .before .before .before .before in
+    let R = start .pre in
+    let a = start .args in
     let L = c .before .before .before .before .before .before .before .before .before .before .before .before .before .before .before .before .before .before .before .before .before .before .before .before .before .list-sets .ensures in (
       still (few-sets (a .pieces .now) (a .across) (a .gap) L) (R .work .parents) (c .before .before .before .before .before .before .before .before .before .before .before .order-sets .kept .1 .1 .1 .1 .0 ∙ c .before .before .before .before .before .before .before .before .before .before .before .before .before .before .before .before .before .before .before .before .before .before .before .before .before .list-sets .kept .1 .1 .1 .0),
       sets-room (a .pieces .now) (a .across) (a .gap) L (R .work .listed) (R .work .listed-ends) (c .before .before .before .before .before .before .before .before .before .before .before .order-sets .ensures) (R .few) (R .members) (R .ends),
@@ -41,8 +44,9 @@ write-sets-requires c κs =
 
 write-rulings-requires : tie.Need-write-rulings-requires
 write-rulings-requires c κs =
-    let R = c .before .before .before .before .before .before .before .before .before .before .before .before .before .before .before .before .before .before .before .before .before .before .before .before .before .before .before .before .before .before .before .before .before .before .before .before .before .before .before .before .before .before .before .before .before .before .before .before .before .before .before .before .pre in
-    let a = c .before .before .before .before .before .before .before .before .before .before .before .before .before .before .before .before .before .before .before .before .before .before .before .before .before .before .before .before .before .before .before .before .before .before .before .before .before .before .before .before .before .before .before .before .before .before .before .before .before .before .before .before .args in
+    let start = c .before .before .before .before .before .before .before .before .before .before .before .before .before .before .before .before .before .before .before .before .before .before .before .before .before .before .before .before .before .before .before .before .before .before .before .before .before .before .before .before .before .before .before .before .before .before .before .before .before .before .before .before in
+    let R = start .pre in
+    let a = start .args in
     let L = c .before .before .before .before .before .before .before .before .before .before .before .before .before .before .before .before .before .before .before .before .before .before .before .before .before .before .before .before .before .before .before .before .before .before .before .list-sets .ensures in
     let S = sets-strung (a .pieces .now) (a .across) (a .gap) L (R .work .listed) (R .work .listed-ends) (c .before .before .before .before .before .before .before .before .before .before .before .before .before .before .before .before .before .before .before .before .before .order-sets .ensures) (c .before .before .before .before .before .before .before .before .before .write-sets .ensures) in (
       R .picture,
@@ -82,8 +86,9 @@ same-length-10 c = c .before .before .before .before .before .before .before .be
 
 returns : tie.Need-returns
 returns c =
-    let R = c .before .before .before .before .before .before .before .before .before .before .before .before .before .before .before .before .before .before .before .before .before .before .before .before .before .before .before .before .before .before .before .before .before .before .before .before .before .before .before .before .before .before .before .before .before .before .before .before .before .before .before .before .before .before .before .before .before .before .before .pre in
-    let a = c .before .before .before .before .before .before .before .before .before .before .before .before .before .before .before .before .before .before .before .before .before .before .before .before .before .before .before .before .before .before .before .before .before .before .before .before .before .before .before .before .before .before .before .before .before .before .before .before .before .before .before .before .before .before .before .before .before .before .before .args in
+    let start = c .before .before .before .before .before .before .before .before .before .before .before .before .before .before .before .before .before .before .before .before .before .before .before .before .before .before .before .before .before .before .before .before .before .before .before .before .before .before .before .before .before .before .before .before .before .before .before .before .before .before .before .before .before .before .before .before .before .before .before in
+    let R = start .pre in
+    let a = start .args in
     let L = c .before .before .before .before .before .before .before .before .before .before .before .before .before .before .before .before .before .before .before .before .before .before .before .before .before .before .before .before .before .before .before .before .before .before .before .before .before .before .before .before .before .before .list-sets .ensures in
     let S = sets-strung (a .pieces .now) (a .across) (a .gap) L (R .work .listed) (R .work .listed-ends) (c .before .before .before .before .before .before .before .before .before .before .before .before .before .before .before .before .before .before .before .before .before .before .before .before .before .before .before .before .order-sets .ensures) (c .before .before .before .before .before .before .before .before .before .before .before .before .before .before .before .before .write-sets .ensures) in
     made (a .pieces .now) (a .across) (a .gap) L S (R .members) (R .ends) (c .before .before .before .before .before .before .write-rulings .ensures)

@@ -32,10 +32,14 @@ found pieces across gap {q} {ls = ls} {le = le} J L =
     }
 
 join-all-requires : tie.Need-join-all-requires
-join-all-requires c κs = (c .before .before .before .before .before .before .pre .1, c .before .before .before .before .before .before .pre .0)
+join-all-requires c κs =
+    let start = c .before .before .before .before .before .before in
+    (start .pre .1, start .pre .0)
 
 list-requires : tie.Need-list-requires
-list-requires c κs = (c .before .before .before .before .before .before .join-all .ensures .parents, c .before .before .before .before .before .before .before .before .before .before .before .before .before .pre .2, c .before .before .before .before .before .before .before .before .before .before .before .before .before .pre .3, c .before .before .before .before .before .before .before .before .before .before .before .before .before .pre .4)
+list-requires c κs =
+    let start = c .before .before .before .before .before .before .before .before .before .before .before .before .before in
+    (c .before .before .before .before .before .before .join-all .ensures .parents, start .pre .2, start .pre .3, start .pre .4)
 
 same-length : tie.Need-same-length
 same-length c = c .before .before .before .before .before .before .before .before .list .kept .0 ∙ c .before .before .before .before .before .before .before .before .before .before .before .before .before .before .before .join-all .kept .1 .1 .1 .0
@@ -50,7 +54,9 @@ same-length-4 : tie.Need-same-length-4
 same-length-4 c = c .before .before .before .before .before .before .before .before .list .kept .1 .1 .1 .1 .0
 
 returns : tie.Need-returns
-returns c = found (c .before .before .before .before .before .before .before .before .before .before .before .before .before .before .before .before .before .before .before .before .before .before .args .pieces .now) (c .before .before .before .before .before .before .before .before .before .before .before .before .before .before .before .before .before .before .before .before .before .before .args .across) (c .before .before .before .before .before .before .before .before .before .before .before .before .before .before .before .before .before .before .before .before .before .before .args .gap) (c .before .before .before .before .before .before .before .before .before .before .before .before .before .before .before .join-all .ensures) (c .before .before .before .before .before .before .before .before .list .ensures)
+returns c =
+    let start = c .before .before .before .before .before .before .before .before .before .before .before .before .before .before .before .before .before .before .before .before .before .before in
+    found (start .args .pieces .now) (start .args .across) (start .args .gap) (c .before .before .before .before .before .before .before .before .before .before .before .before .before .before .before .join-all .ensures) (c .before .before .before .before .before .before .before .before .list .ensures)
 
 pub list-sets-spec : {M : Type 1} → statement M
 list-sets-spec =

@@ -27,10 +27,14 @@ ordered pieces ls le n keys order {keys′} p q =
     q ∙ ap (λ (t : List ℕ). written (sortedIndexes t) order) (ap (take n) p ∙ take-at ks (drop (length ks) keys) n long)
 
 set-keys-requires : tie.Need-set-keys-requires
-set-keys-requires c κs = (c .before .before .before .before .before .before .before .pre .0, c .before .before .before .before .before .before .before .pre .1, c .before .before .before .before .before .before .before .pre .5)
+set-keys-requires c κs =
+    let start = c .before .before .before .before .before .before .before in
+    (start .pre .0, start .pre .1, start .pre .5)
 
 sort-sets-requires : tie.Need-sort-sets-requires
-sort-sets-requires c κs = (c .before .before .before .before .before .before .before .before .before .before .before .before .before .pre .2, still (c .before .before .before .before .before .before .before .before .before .before .before .before .before .pre .5) (c .before .before .before .before .before .set-keys .kept .1 .1 .1 .1 .0), c .before .before .before .before .before .before .before .before .before .before .before .before .before .pre .3, c .before .before .before .before .before .before .before .before .before .before .before .before .before .pre .4)
+sort-sets-requires c κs =
+    let start = c .before .before .before .before .before .before .before .before .before .before .before .before .before in
+    (start .pre .2, still (start .pre .5) (c .before .before .before .before .before .set-keys .kept .1 .1 .1 .1 .0), start .pre .3, start .pre .4)
 
 same-length : tie.Need-same-length
 same-length c = c .before .before .before .before .sort-sets .kept .1 .1 .0

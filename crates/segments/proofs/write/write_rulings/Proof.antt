@@ -88,9 +88,10 @@ members-of-requires c κs = tt
 
 ruling-of-requires : tie.Need-ruling-of-requires Inv-loop μ-loop
 ruling-of-requires c κs =
-    let a = c .before .before .before .before .before .before .before .before .before .before .args in
-    let s = read (a .pieces .now) (a .members .now) (a .ends .now) (c .members-of .result .now) (c .before .before .before .before .before .before .before .before .before .before .pre .1) (c .before .loop-test .taken) (c .members-of .ensures) in
-    (c .before .before .before .before .before .before .before .before .before .before .pre .0, s .0, s .1)
+    let start = c .before .before .before .before .before .before .before .before .before .before in
+    let a = start .args in
+    let s = read (a .pieces .now) (a .members .now) (a .ends .now) (c .members-of .result .now) (start .pre .1) (c .before .loop-test .taken) (c .members-of .ensures) in
+    (start .pre .0, s .0, s .1)
 
 put-rect-requires : tie.Need-put-rect-requires Inv-loop μ-loop
 put-rect-requires c κs = omega (arith, c .before .before .before .loop-test .taken, c .before .before .before .before .before .before .before .before .before .before .before .before .pre .2 .rects, c .before .before .before .before .loop .inv .rects-long)
@@ -99,13 +100,17 @@ direction-requires : tie.Need-direction-requires Inv-loop μ-loop
 direction-requires c κs = tt
 
 mul-directions : tie.Need-mul-directions Inv-loop μ-loop
-mul-directions c = scaled-fits (c .before .before .before .before .before .before .before .before .loop .k) (length (c .before .before .before .before .before .before .before .before .before .before .before .before .before .before .before .before .args .directions .now)) 4 (omega (arith, c .before .before .before .before .before .before .before .loop-test .taken, c .before .before .before .before .before .before .before .before .before .before .before .before .before .before .before .before .pre .2 .directions)) (c .before .before .before .before .before .before .before .before .before .before .before .before .before .before .before .before .good .1 .1 .1 .1 .1 .1 .1 .1 .0 .1)
+mul-directions c =
+    let start = c .before .before .before .before .before .before .before .before .before .before .before .before .before .before .before .before in
+    scaled-fits (c .before .before .before .before .before .before .before .before .loop .k) (length (start .args .directions .now)) 4 (omega (arith, c .before .before .before .before .before .before .before .loop-test .taken, start .pre .2 .directions)) (start .good .1 .1 .1 .1 .1 .1 .1 .1 .0 .1)
 
 slice-write-directions : tie.Need-slice-write-directions Inv-loop μ-loop
 slice-write-directions c = omega (arith, c .before .before .before .before .before .before .before .loop-test .taken, c .before .before .before .before .before .before .before .before .before .before .before .before .before .before .before .before .pre .2 .directions, c .before .before .before .before .before .before .before .before .loop .inv .directions-long)
 
 mul-contrasts : tie.Need-mul-contrasts Inv-loop μ-loop
-mul-contrasts c = scaled-fits (c .before .before .before .before .before .before .before .before .loop .k) (length (c .before .before .before .before .before .before .before .before .before .before .before .before .before .before .before .before .args .contrasts .now)) 8 (omega (arith, c .before .before .before .before .before .before .before .loop-test .taken, c .before .before .before .before .before .before .before .before .before .before .before .before .before .before .before .before .pre .2 .contrasts)) (c .before .before .before .before .before .before .before .before .before .before .before .before .before .before .before .before .good .1 .1 .1 .1 .1 .1 .1 .1 .1 .0 .1)
+mul-contrasts c =
+    let start = c .before .before .before .before .before .before .before .before .before .before .before .before .before .before .before .before in
+    scaled-fits (c .before .before .before .before .before .before .before .before .loop .k) (length (start .args .contrasts .now)) 8 (omega (arith, c .before .before .before .before .before .before .before .loop-test .taken, start .pre .2 .contrasts)) (start .good .1 .1 .1 .1 .1 .1 .1 .1 .1 .0 .1)
 
 slice-write-contrasts : tie.Need-slice-write-contrasts Inv-loop μ-loop
 slice-write-contrasts c = omega (arith, c .before .before .before .before .before .before .before .loop-test .taken, c .before .before .before .before .before .before .before .before .before .before .before .before .before .before .before .before .pre .2 .contrasts, c .before .before .before .before .before .before .before .before .loop .inv .contrasts-long)
@@ -118,8 +123,9 @@ loop-less c = omega (arith, c .before .before .before .before .before .before .b
 
 loop-again : tie.Need-loop-again Inv-loop μ-loop
 loop-again c =
-    let a = c .before .before .before .before .before .before .before .before .before .before .before .before .before .before .before .before .args in
-    turn (a .raster .now) (a .w) (a .h) (a .pieces .now) (a .members .now) (a .ends .now) (a .count) (a .rects .now) (a .directions .now) (a .contrasts .now) (c .before .before .before .before .before .before .before .before .before .before .before .before .before .before .before .before .pre .2) (c .before .before .before .before .before .before .before .before .loop .inv) (c .before .before .before .before .before .before .before .loop-test .taken) (c .before .before .before .before .before .before .members-of .ensures) (c .before .before .before .before .before .ruling-of .ensures) (c .before .before .before .put-rect .ensures) (c .direction .ensures)
+    let start = c .before .before .before .before .before .before .before .before .before .before .before .before .before .before .before .before in
+    let a = start .args in
+    turn (a .raster .now) (a .w) (a .h) (a .pieces .now) (a .members .now) (a .ends .now) (a .count) (a .rects .now) (a .directions .now) (a .contrasts .now) (start .pre .2) (c .before .before .before .before .before .before .before .before .loop .inv) (c .before .before .before .before .before .before .before .loop-test .taken) (c .before .before .before .before .before .before .members-of .ensures) (c .before .before .before .before .before .ruling-of .ensures) (c .before .before .before .put-rect .ensures) (c .direction .ensures)
 
 same-length : tie.Need-same-length Inv-loop μ-loop
 same-length c = c .before .loop .inv .rects-long

@@ -63,10 +63,14 @@ abbrev μ-loop : tie.MeasureT-loop
 μ-loop order count listed listed-ends members₀ ends₀ at₀ k₀ members ends at k = count - k
 
 loop-holds : tie.Need-loop-holds Inv-loop μ-loop
-loop-holds c = begun (c .before .before .before .before .before .args .listed .now) (c .before .before .before .before .before .args .listed-ends .now) (c .before .before .before .before .before .args .count) (c .before .before .before .before .before .args .order .now) (c .before .before .before .before .before .args .members .now) (c .before .before .before .before .before .args .ends .now)
+loop-holds c =
+    let start = c .before .before .before .before .before in
+    begun (start .args .listed .now) (start .args .listed-ends .now) (start .args .count) (start .args .order .now) (start .args .members .now) (start .args .ends .now)
 
 mul-members-of : tie.Need-mul-members-of Inv-loop μ-loop
-mul-members-of c = scaled-fits (c .before .loop .k) (length (c .before .before .before .before .before .before .before .args .order .now)) 4 (omega (arith, c .loop-test .taken, c .before .before .before .before .before .before .before .pre .0)) (c .before .before .before .before .before .before .before .good .0 .1)
+mul-members-of c =
+    let start = c .before .before .before .before .before .before .before in
+    scaled-fits (c .before .loop .k) (length (start .args .order .now)) 4 (omega (arith, c .loop-test .taken, start .pre .0)) (start .good .0 .1)
 
 shared-slice-read-members-of : tie.Need-shared-slice-read-members-of Inv-loop μ-loop
 shared-slice-read-members-of c = omega (arith, c .before .loop-test .taken, c .before .before .before .before .before .before .before .before .pre .0)
@@ -79,21 +83,26 @@ members-of-requires c κs = tt
 
 copy-requires : tie.Need-copy-requires Inv-loop μ-loop
 copy-requires c κs =
-    let a = c .before .before .before .before .before .before .before .before .before .before .args in
-    fits (a .listed .now) (a .listed-ends .now) (a .count) (a .order .now) (a .members .now) (a .ends .now) (c .before .before .before .before .loop .members) (c .before .before .before .before .loop .ends) (c .before .before .before .before .loop .at) (c .before .before .before .before .loop .k) (c .before .before .before .before .loop .inv) (c .before .before .before .loop-test .taken) (c .before .before .before .before .before .before .before .before .before .before .pre .1) (c .before .members-of .ensures)
+    let start = c .before .before .before .before .before .before .before .before .before .before in
+    let a = start .args in
+    fits (a .listed .now) (a .listed-ends .now) (a .count) (a .order .now) (a .members .now) (a .ends .now) (c .before .before .before .before .loop .members) (c .before .before .before .before .loop .ends) (c .before .before .before .before .loop .at) (c .before .before .before .before .loop .k) (c .before .before .before .before .loop .inv) (c .before .before .before .loop-test .taken) (start .pre .1) (c .before .members-of .ensures)
 
 cast-ends : tie.Need-cast-ends Inv-loop μ-loop
 cast-ends c =
-    let a = c .before .before .before .before .before .before .before .before .before .before .before .before .before .args in
-    record { fits = end-small (a .listed .now) (a .listed-ends .now) (a .count) (a .order .now) (a .members .now) (a .ends .now) (c .before .before .before .before .before .before .before .loop .members) (c .before .before .before .before .before .before .before .loop .ends) (c .before .before .before .before .before .before .before .loop .at) (c .before .before .before .before .before .before .before .loop .k) (c .before .before .before .before .before .before .before .loop .inv) (c .before .before .before .before .before .before .loop-test .taken) (c .before .before .before .before .before .before .before .before .before .before .before .before .before .pre .1) (c .before .before .before .before .members-of .ensures) (c .before .before .copy .ensures) }
+    let start = c .before .before .before .before .before .before .before .before .before .before .before .before .before in
+    let a = start .args in
+    record { fits = end-small (a .listed .now) (a .listed-ends .now) (a .count) (a .order .now) (a .members .now) (a .ends .now) (c .before .before .before .before .before .before .before .loop .members) (c .before .before .before .before .before .before .before .loop .ends) (c .before .before .before .before .before .before .before .loop .at) (c .before .before .before .before .before .before .before .loop .k) (c .before .before .before .before .before .before .before .loop .inv) (c .before .before .before .before .before .before .loop-test .taken) (start .pre .1) (c .before .before .before .before .members-of .ensures) (c .before .before .copy .ensures) }
 
 mul-ends : tie.Need-mul-ends Inv-loop μ-loop
-mul-ends c = scaled-fits (c .before .before .before .before .before .before .before .loop .k) (length (c .before .before .before .before .before .before .before .before .before .before .before .before .before .args .ends .now)) 4 (omega (arith, c .before .before .before .before .before .before .loop-test .taken, c .before .before .before .before .before .before .before .before .before .before .before .before .before .pre .1 .ends, length-values (nth (c .before .before .before .before .before .before .before .before .before .before .before .before .before .args .listed .now) (c .before .before .before .before .before .before .before .before .before .before .before .before .before .args .listed-ends .now) (c .before .before .before .before .before .before .before .before .before .before .before .before .before .args .count) (c .before .before .before .before .before .before .before .before .before .before .before .before .before .args .order .now)) (c .before .before .before .before .before .before .before .before .before .before .before .before .before .args .count))) (c .before .before .before .before .before .before .before .before .before .before .before .before .before .good .1 .1 .1 .1 .1 .0 .1)
+mul-ends c =
+    let start = c .before .before .before .before .before .before .before .before .before .before .before .before .before in
+    scaled-fits (c .before .before .before .before .before .before .before .loop .k) (length (start .args .ends .now)) 4 (omega (arith, c .before .before .before .before .before .before .loop-test .taken, start .pre .1 .ends, length-values (nth (start .args .listed .now) (start .args .listed-ends .now) (start .args .count) (start .args .order .now)) (start .args .count))) (start .good .1 .1 .1 .1 .1 .0 .1)
 
 slice-write-ends : tie.Need-slice-write-ends Inv-loop μ-loop
 slice-write-ends c =
-    let a = c .before .before .before .before .before .before .before .before .before .before .before .before .before .args in
-    end-room (a .listed .now) (a .listed-ends .now) (a .count) (a .order .now) (a .members .now) (a .ends .now) (c .before .before .before .before .before .before .before .loop .members) (c .before .before .before .before .before .before .before .loop .ends) (c .before .before .before .before .before .before .before .loop .at) (c .before .before .before .before .before .before .before .loop .k) (c .before .before .before .before .before .before .before .loop .inv) (c .before .before .before .before .before .before .loop-test .taken) (c .before .before .before .before .before .before .before .before .before .before .before .before .before .pre .1)
+    let start = c .before .before .before .before .before .before .before .before .before .before .before .before .before in
+    let a = start .args in
+    end-room (a .listed .now) (a .listed-ends .now) (a .count) (a .order .now) (a .members .now) (a .ends .now) (c .before .before .before .before .before .before .before .loop .members) (c .before .before .before .before .before .before .before .loop .ends) (c .before .before .before .before .before .before .before .loop .at) (c .before .before .before .before .before .before .before .loop .k) (c .before .before .before .before .before .before .before .loop .inv) (c .before .before .before .before .before .before .loop-test .taken) (start .pre .1)
 
 add-k : tie.Need-add-k Inv-loop μ-loop
 add-k c = omega (arith, c .before .before .before .before .before .before .loop-test .taken, c .before .before .before .before .before .before .before .before .before .before .before .before .before .fits)
@@ -103,8 +112,9 @@ loop-less c = omega (arith, c .before .before .before .before .before .before .l
 
 loop-again : tie.Need-loop-again Inv-loop μ-loop
 loop-again c =
-    let a = c .before .before .before .before .before .before .before .before .before .before .before .before .before .args in
-    turn (a .listed .now) (a .listed-ends .now) (a .count) (a .order .now) (a .members .now) (a .ends .now) (c .before .before .before .before .before .before .before .loop .members) (c .before .before .before .before .before .before .before .loop .ends) (c .before .before .before .before .before .before .before .loop .at) (c .before .before .before .before .before .before .before .loop .k) (c .before .before .before .before .before .before .before .loop .inv) (c .before .before .before .before .before .before .loop-test .taken) (c .before .before .before .before .before .before .before .before .before .before .before .before .before .pre .1) (c .before .before .before .before .members-of .ensures) (c .before .before .copy .kept .1 .0) (c .before .before .copy .ensures)
+    let start = c .before .before .before .before .before .before .before .before .before .before .before .before .before in
+    let a = start .args in
+    turn (a .listed .now) (a .listed-ends .now) (a .count) (a .order .now) (a .members .now) (a .ends .now) (c .before .before .before .before .before .before .before .loop .members) (c .before .before .before .before .before .before .before .loop .ends) (c .before .before .before .before .before .before .before .loop .at) (c .before .before .before .before .before .before .before .loop .k) (c .before .before .before .before .before .before .before .loop .inv) (c .before .before .before .before .before .before .loop-test .taken) (start .pre .1) (c .before .before .before .before .members-of .ensures) (c .before .before .copy .kept .1 .0) (c .before .before .copy .ensures)
 
 same-length : tie.Need-same-length Inv-loop μ-loop
 same-length c = c .before .loop .inv .members-long

@@ -37,10 +37,14 @@ abbrev μ-loop : tie.MeasureT-loop
 μ-loop rects directions chosen set horizontal keys₀ n₀ k₀ keys n k = length set - k
 
 loop-holds : tie.Need-loop-holds Inv-loop μ-loop
-loop-holds c = gather-begin _ _ (c .before .before .before .before .before .args .set .now) (c .before .before .before .before .before .args .keys .now)
+loop-holds c =
+    let start = c .before .before .before .before .before in
+    gather-begin _ _ (start .args .set .now) (start .args .keys .now)
 
 mul-ruling-at : tie.Need-mul-ruling-at Inv-loop μ-loop
-mul-ruling-at c = scaled-fits (c .before .loop .k) (length (c .before .before .before .before .before .before .before .args .set .now)) 4 (c .loop-test .taken) (c .before .before .before .before .before .before .before .good .1 .1 .1 .0 .1)
+mul-ruling-at c =
+    let start = c .before .before .before .before .before .before .before in
+    scaled-fits (c .before .loop .k) (length (start .args .set .now)) 4 (c .loop-test .taken) (start .good .1 .1 .1 .0 .1)
 
 shared-slice-read-ruling-at : tie.Need-shared-slice-read-ruling-at Inv-loop μ-loop
 shared-slice-read-ruling-at c = c .before .loop-test .taken
@@ -49,13 +53,17 @@ cast-ruling-at : tie.Need-cast-ruling-at Inv-loop μ-loop
 cast-ruling-at c = omega (arith, c .shared-slice-known5 .given (c .before .before .loop .k))
 
 ruling-at-requires : tie.Need-ruling-at-requires Inv-loop μ-loop
-ruling-at-requires c κs = (c .before .before .before .before .before .before .before .before .pre .0, member-within (c .before .before .before .before .before .before .before .before .args .set .now) (c .before .before .before .before .before .before .before .before .pre .1) (c .before .before .loop .k) (c .before .loop-test .taken))
+ruling-at-requires c κs =
+    let start = c .before .before .before .before .before .before .before .before in
+    (start .pre .0, member-within (start .args .set .now) (start .pre .1) (c .before .before .loop .k) (c .before .loop-test .taken))
 
 cast-keys : tie.Need-cast-keys Inv-loop μ-loop
 cast-keys c = search needs
 
 mul-keys : tie.Need-mul-keys Inv-loop μ-loop
-mul-keys c = omega (arith, c .before .before .before .before .loop .inv .low, c .before .before .before .loop-test .taken, c .before .before .before .before .before .before .before .before .before .before .pre .1 .short, c .before .before .before .before .before .before .before .before .before .before .pre .0 .few)
+mul-keys c =
+    let start = c .before .before .before .before .before .before .before .before .before .before in
+    omega (arith, c .before .before .before .before .loop .inv .low, c .before .before .before .loop-test .taken, start .pre .1 .short, start .pre .0 .few)
 
 slice-write-keys : tie.Need-slice-write-keys Inv-loop μ-loop
 slice-write-keys c = omega (arith, c .before .before .before .before .loop .inv .low, c .before .before .before .before .loop .inv .long, c .before .before .before .loop-test .taken, c .before .before .before .before .before .before .before .before .before .before .pre .2)
@@ -64,22 +72,30 @@ in-direction-requires : tie.Need-in-direction-requires Inv-loop μ-loop
 in-direction-requires c κs = search needs
 
 next-requires : tie.Need-next-requires Inv-loop μ-loop
-next-requires c κs = omega (arith, c .before .before .before .before .before .loop .inv .low, c .before .before .before .before .loop-test .taken, c .before .before .before .before .before .before .before .before .before .before .before .pre .1 .short, c .before .before .before .before .before .before .before .before .before .before .before .pre .0 .few)
+next-requires c κs =
+    let start = c .before .before .before .before .before .before .before .before .before .before .before in
+    omega (arith, c .before .before .before .before .before .loop .inv .low, c .before .before .before .before .loop-test .taken, start .pre .1 .short, start .pre .0 .few)
 
 add-k : tie.Need-add-k Inv-loop μ-loop
-add-k c = omega (arith, c .before .before .before .before .before .loop-test .taken, c .before .before .before .before .before .before .before .before .before .before .before .before .pre .1 .short, c .before .before .before .before .before .before .before .before .before .before .before .before .pre .0 .few)
+add-k c =
+    let start = c .before .before .before .before .before .before .before .before .before .before .before .before in
+    omega (arith, c .before .before .before .before .before .loop-test .taken, start .pre .1 .short, start .pre .0 .few)
 
 loop-less : tie.Need-loop-less Inv-loop μ-loop
 loop-less c = omega (arith, c .before .before .before .before .before .loop-test .taken)
 
 loop-again : tie.Need-loop-again Inv-loop μ-loop
-loop-again c = turn (c .before .before .before .before .before .before .before .before .before .before .before .before .args .horizontal) (rulingAt (c .before .before .before .before .before .before .before .before .before .before .before .before .args .rects .now) (c .before .before .before .before .before .before .before .before .before .before .before .before .args .directions .now) (c .before .before .before .before .before .before .before .before .before .before .before .before .args .chosen .now)) (c .before .before .before .before .before .before .before .before .before .before .before .before .args .set .now) (c .before .before .before .before .before .before .before .before .before .before .before .before .args .keys .now) (c .before .before .before .before .before .before .loop .inv) (c .before .before .before .before .before .loop-test .taken) (c .before .before .before .before .before .before .before .before .before .before .before .before .pre .2) (c .before .before .before .ruling-at .ensures) (c .before .in-direction .ensures) (c .next .ensures)
+loop-again c =
+    let start = c .before .before .before .before .before .before .before .before .before .before .before .before in
+    turn (start .args .horizontal) (rulingAt (start .args .rects .now) (start .args .directions .now) (start .args .chosen .now)) (start .args .set .now) (start .args .keys .now) (c .before .before .before .before .before .before .loop .inv) (c .before .before .before .before .before .loop-test .taken) (start .pre .2) (c .before .before .before .ruling-at .ensures) (c .before .in-direction .ensures) (c .next .ensures)
 
 same-length : tie.Need-same-length Inv-loop μ-loop
 same-length c = c .before .loop .inv .long
 
 returns : tie.Need-returns Inv-loop μ-loop
-returns c = done (c .before .before .before .before .before .before .before .args .horizontal) (rulingAt (c .before .before .before .before .before .before .before .args .rects .now) (c .before .before .before .before .before .before .before .args .directions .now) (c .before .before .before .before .before .before .before .args .chosen .now)) (c .before .before .before .before .before .before .before .args .set .now) (c .before .before .before .before .before .before .before .args .keys .now) (c .before .loop .inv) (c .loop-test .left)
+returns c =
+    let start = c .before .before .before .before .before .before .before in
+    done (start .args .horizontal) (rulingAt (start .args .rects .now) (start .args .directions .now) (start .args .chosen .now)) (start .args .set .now) (start .args .keys .now) (c .before .loop .inv) (c .loop-test .left)
 
 pub collect-spec : {M : Type 1} → statement M
 collect-spec =

@@ -33,7 +33,9 @@ module _ {h : Bool} {s : ℕ → Segment} {set keys : List ℕ} {n : ℕ} (C : C
       }
 
 collect-requires : tie.Need-collect-requires
-collect-requires c κs = (c .before .before .before .before .before .before .before .before .pre .0, c .before .before .before .before .before .before .before .before .pre .1, c .before .before .before .before .before .before .before .before .pre .2)
+collect-requires c κs =
+    let start = c .before .before .before .before .before .before .before .before in
+    (start .pre .0, start .pre .1, start .pre .2)
 
 slice-reshare-prefix-lines : tie.Need-slice-reshare-prefix-lines
 slice-reshare-prefix-lines c = search needs
@@ -42,7 +44,9 @@ slice-aggregate-lines : tie.Need-slice-aggregate-lines
 slice-aggregate-lines c = sym (length-take-le (c .before .before .before .collect .result) (c .before .before .before .collect .last .1 .1 .1 .1 .1 .0) (omega (arith, c .before .before .before .collect .ensures .short, c .before .before .before .before .before .before .before .before .before .before .before .before .pre .2, c .before .before .before .collect .kept .1 .1 .1 .1 .1 .0)))
 
 lines-requires : tie.Need-lines-requires
-lines-requires c κs = room (c .before .before .before .before .before .collect .ensures) (omega (arith, c .before .before .before .before .before .collect .ensures .short, c .before .before .before .before .before .before .before .before .before .before .before .before .before .before .pre .2, c .before .before .before .before .before .collect .kept .1 .1 .1 .1 .1 .0)) (c .before .before .before .before .before .before .before .before .before .before .before .before .before .before .pre .3) (c .before .before .before .before .before .before .before .before .before .before .before .before .before .before .pre .4) (omega (arith, c .before .before .before .before .before .before .before .before .before .before .before .before .before .before .pre .1 .short, c .before .before .before .before .before .before .before .before .before .before .before .before .before .before .pre .0 .few))
+lines-requires c κs =
+    let start = c .before .before .before .before .before .before .before .before .before .before .before .before .before .before in
+    room (c .before .before .before .before .before .collect .ensures) (omega (arith, c .before .before .before .before .before .collect .ensures .short, start .pre .2, c .before .before .before .before .before .collect .kept .1 .1 .1 .1 .1 .0)) (start .pre .3) (start .pre .4) (omega (arith, start .pre .1 .short, start .pre .0 .few))
 
 same-length : tie.Need-same-length
 same-length c = search needs

@@ -51,22 +51,32 @@ cast-first : tie.Need-cast-first Inv-loop μ-loop
 cast-first c = omega (arith, c .shared-slice-known5 .given 0)
 
 mul-first : tie.Need-mul-first Inv-loop μ-loop
-mul-first c = scaled-fits (getD (c .before .before .before .before .before .args .set .now) 0 0) (length (c .before .before .before .before .before .args .chosen .now)) 4 (member-within (c .before .before .before .before .before .args .set .now) (c .before .before .before .before .before .pre .1) 0 (c .before .before .before .before .before .pre .2)) (c .before .before .before .before .before .good .1 .1 .0 .1)
+mul-first c =
+    let start = c .before .before .before .before .before in
+    scaled-fits (getD (start .args .set .now) 0 0) (length (start .args .chosen .now)) 4 (member-within (start .args .set .now) (start .pre .1) 0 (start .pre .2)) (start .good .1 .1 .0 .1)
 
 shared-slice-read-first-2 : tie.Need-shared-slice-read-first-2 Inv-loop μ-loop
-shared-slice-read-first-2 c = member-within (c .before .before .before .before .before .before .args .set .now) (c .before .before .before .before .before .before .pre .1) 0 (c .before .before .before .before .before .before .pre .2)
+shared-slice-read-first-2 c =
+    let start = c .before .before .before .before .before .before in
+    member-within (start .args .set .now) (start .pre .1) 0 (start .pre .2)
 
 cast-first-2 : tie.Need-cast-first-2 Inv-loop μ-loop
 cast-first-2 c = omega (arith, c .shared-slice-known6 .given (getD (c .before .before .before .before .before .before .args .set .now) 0 0))
 
 rect-at-requires : tie.Need-rect-at-requires Inv-loop μ-loop
-rect-at-requires c κs = c .before .before .before .before .before .before .pre .0 .rect (getD (c .before .before .before .before .before .before .args .set .now) 0 0) (member-within (c .before .before .before .before .before .before .args .set .now) (c .before .before .before .before .before .before .pre .1) 0 (c .before .before .before .before .before .before .pre .2))
+rect-at-requires c κs =
+    let start = c .before .before .before .before .before .before in
+    start .pre .0 .rect (getD (start .args .set .now) 0 0) (member-within (start .args .set .now) (start .pre .1) 0 (start .pre .2))
 
 loop-holds : tie.Need-loop-holds Inv-loop μ-loop
-loop-holds c = (c .before .before .before .before .before .before .before .pre .2, begun (c .before .before .before .before .before .before .before .args .rects .now) (c .before .before .before .before .before .before .before .args .chosen .now) (c .before .before .before .before .before .before .before .args .set .now) (c .before .before .before .before .before .before .before .pre .2) (c .rect-at .ensures))
+loop-holds c =
+    let start = c .before .before .before .before .before .before .before in
+    (start .pre .2, begun (start .args .rects .now) (start .args .chosen .now) (start .args .set .now) (start .pre .2) (c .rect-at .ensures))
 
 mul-place : tie.Need-mul-place Inv-loop μ-loop
-mul-place c = scaled-fits (c .before .loop .k) (length (c .before .before .before .before .before .before .before .before .before .args .set .now)) 4 (c .loop-test .taken) (c .before .before .before .before .before .before .before .before .before .good .1 .1 .1 .0 .1)
+mul-place c =
+    let start = c .before .before .before .before .before .before .before .before .before in
+    scaled-fits (c .before .loop .k) (length (start .args .set .now)) 4 (c .loop-test .taken) (start .good .1 .1 .1 .0 .1)
 
 shared-slice-read-place : tie.Need-shared-slice-read-place Inv-loop μ-loop
 shared-slice-read-place c = c .before .loop-test .taken
@@ -75,31 +85,43 @@ cast-place : tie.Need-cast-place Inv-loop μ-loop
 cast-place c = omega (arith, c .shared-slice-known7 .given (c .before .before .loop .k))
 
 mul-place-2 : tie.Need-mul-place-2 Inv-loop μ-loop
-mul-place-2 c = scaled-fits (getD (c .before .before .before .before .before .before .before .before .before .before .args .set .now) (c .before .before .loop .k) 0) (length (c .before .before .before .before .before .before .before .before .before .before .args .chosen .now)) 4 (member-within (c .before .before .before .before .before .before .before .before .before .before .args .set .now) (c .before .before .before .before .before .before .before .before .before .before .pre .1) (c .before .before .loop .k) (c .before .loop-test .taken)) (c .before .before .before .before .before .before .before .before .before .before .good .1 .1 .0 .1)
+mul-place-2 c =
+    let start = c .before .before .before .before .before .before .before .before .before .before in
+    scaled-fits (getD (start .args .set .now) (c .before .before .loop .k) 0) (length (start .args .chosen .now)) 4 (member-within (start .args .set .now) (start .pre .1) (c .before .before .loop .k) (c .before .loop-test .taken)) (start .good .1 .1 .0 .1)
 
 shared-slice-read-place-2 : tie.Need-shared-slice-read-place-2 Inv-loop μ-loop
-shared-slice-read-place-2 c = member-within (c .before .before .before .before .before .before .before .before .before .before .before .args .set .now) (c .before .before .before .before .before .before .before .before .before .before .before .pre .1) (c .before .before .before .loop .k) (c .before .before .loop-test .taken)
+shared-slice-read-place-2 c =
+    let start = c .before .before .before .before .before .before .before .before .before .before .before in
+    member-within (start .args .set .now) (start .pre .1) (c .before .before .before .loop .k) (c .before .before .loop-test .taken)
 
 cast-place-2 : tie.Need-cast-place-2 Inv-loop μ-loop
 cast-place-2 c = omega (arith, c .shared-slice-known8 .given (getD (c .before .before .before .before .before .before .before .before .before .before .before .args .set .now) (c .before .before .before .loop .k) 0))
 
 rect-at-requires-2 : tie.Need-rect-at-requires-2 Inv-loop μ-loop
-rect-at-requires-2 c κs = c .before .before .before .before .before .before .before .before .before .before .before .pre .0 .rect (getD (c .before .before .before .before .before .before .before .before .before .before .before .args .set .now) (c .before .before .before .loop .k) 0) (member-within (c .before .before .before .before .before .before .before .before .before .before .before .args .set .now) (c .before .before .before .before .before .before .before .before .before .before .before .pre .1) (c .before .before .before .loop .k) (c .before .before .loop-test .taken))
+rect-at-requires-2 c κs =
+    let start = c .before .before .before .before .before .before .before .before .before .before .before in
+    start .pre .0 .rect (getD (start .args .set .now) (c .before .before .before .loop .k) 0) (member-within (start .args .set .now) (start .pre .1) (c .before .before .before .loop .k) (c .before .before .loop-test .taken))
 
 union-rect-requires : tie.Need-union-rect-requires Inv-loop μ-loop
 union-rect-requires c κs = tt
 
 add-k : tie.Need-add-k Inv-loop μ-loop
-add-k c = omega (arith, c .before .before .before .before .loop-test .taken, c .before .before .before .before .before .before .before .before .before .before .before .before .before .pre .1 .short, c .before .before .before .before .before .before .before .before .before .before .before .before .before .pre .0 .few)
+add-k c =
+    let start = c .before .before .before .before .before .before .before .before .before .before .before .before .before in
+    omega (arith, c .before .before .before .before .loop-test .taken, start .pre .1 .short, start .pre .0 .few)
 
 loop-less : tie.Need-loop-less Inv-loop μ-loop
 loop-less c = omega (arith, c .before .before .before .before .loop-test .taken)
 
 loop-again : tie.Need-loop-again Inv-loop μ-loop
-loop-again c = (omega (arith, c .before .before .before .before .loop-test .taken), turn (c .before .before .before .before .before .before .before .before .before .before .before .before .before .args .rects .now) (c .before .before .before .before .before .before .before .before .before .before .before .before .before .args .chosen .now) (c .before .before .before .before .before .before .before .before .before .before .before .before .before .args .set .now) (c .before .before .before .before .before .loop .r) (c .before .before .before .before .before .loop .inv .1) (c .before .before .before .before .loop-test .taken) (c .before .rect-at2 .ensures) (c .union-rect .ensures))
+loop-again c =
+    let start = c .before .before .before .before .before .before .before .before .before .before .before .before .before in
+    (omega (arith, c .before .before .before .before .loop-test .taken), turn (start .args .rects .now) (start .args .chosen .now) (start .args .set .now) (c .before .before .before .before .before .loop .r) (c .before .before .before .before .before .loop .inv .1) (c .before .before .before .before .loop-test .taken) (c .before .rect-at2 .ensures) (c .union-rect .ensures))
 
 returns : tie.Need-returns Inv-loop μ-loop
-returns c = done (c .before .before .before .before .before .before .before .before .before .args .rects .now) (c .before .before .before .before .before .before .before .before .before .args .chosen .now) (c .before .before .before .before .before .before .before .before .before .args .set .now) (c .before .loop .inv .1) (c .loop-test .left)
+returns c =
+    let start = c .before .before .before .before .before .before .before .before .before in
+    done (start .args .rects .now) (start .args .chosen .now) (start .args .set .now) (c .before .loop .inv .1) (c .loop-test .left)
 
 pub around-set-spec : {M : Type 1} → statement M
 around-set-spec =

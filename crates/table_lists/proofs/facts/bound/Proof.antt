@@ -62,7 +62,9 @@ loop-holds : tie.Need-loop-holds Inv-loop μ-loop
 loop-holds c = record { up-to = omega arith; long = refl; content = refl }
 
 mul-members-of : tie.Need-mul-members-of Inv-loop μ-loop
-mul-members-of c = scaled-fits (c .before .loop .t) (length (c .before .before .before .before .before .before .before .before .before .args .numbers .now)) 4 (omega (arith, c .loop-test .taken, c .before .before .before .before .before .before .before .before .before .pre .2 .room)) (c .before .before .before .before .before .before .before .before .before .good .1 .1 .1 .1 .1 .1 .0 .1)
+mul-members-of c =
+    let start = c .before .before .before .before .before .before .before .before .before in
+    scaled-fits (c .before .loop .t) (length (start .args .numbers .now)) 4 (omega (arith, c .loop-test .taken, start .pre .2 .room)) (start .good .1 .1 .1 .1 .1 .1 .0 .1)
 
 shared-slice-read-members-of : tie.Need-shared-slice-read-members-of Inv-loop μ-loop
 shared-slice-read-members-of c = omega (arith, c .before .loop-test .taken, c .before .before .before .before .before .before .before .before .before .before .pre .2 .room)
@@ -74,8 +76,10 @@ members-of-requires : tie.Need-members-of-requires Inv-loop μ-loop
 members-of-requires c κs = tt
 
 around-set-requires : tie.Need-around-set-requires Inv-loop μ-loop
-around-set-requires c κs = let r = set-read (c .before .before .before .before .before .before .before .before .before .before .before .before .pre .1) (c .before .before .before .before .before .before .before .before .before .before .before .before .pre .2 .low (c .before .before .before .before .loop .t) (c .before .before .before .loop-test .taken)) (c .before .members-of .ensures) in
-    (c .before .before .before .before .before .before .before .before .before .before .before .before .pre .0, r .0, r .1)
+around-set-requires c κs =
+    let start = c .before .before .before .before .before .before .before .before .before .before .before .before in
+    let r = set-read (start .pre .1) (start .pre .2 .low (c .before .before .before .before .loop .t) (c .before .before .before .loop-test .taken)) (c .before .members-of .ensures) in
+    (start .pre .0, r .0, r .1)
 
 put-rect-requires : tie.Need-put-rect-requires Inv-loop μ-loop
 put-rect-requires c κs = omega (arith, c .before .before .before .before .loop-test .taken, c .before .before .before .before .before .before .before .before .before .before .before .before .before .pre .3, c .before .before .before .before .before .loop .inv .long)
@@ -87,13 +91,17 @@ loop-less : tie.Need-loop-less Inv-loop μ-loop
 loop-less c = omega (arith, c .before .before .before .before .before .before .before .loop-test .taken)
 
 loop-again : tie.Need-loop-again Inv-loop μ-loop
-loop-again c = turn (c .before .before .before .before .before .before .before .before .before .before .before .before .before .before .before .before .args .rects .now) (c .before .before .before .before .before .before .before .before .before .before .before .before .before .before .before .before .args .chosen .now) (membersOf (c .before .before .before .before .before .before .before .before .before .before .before .before .before .before .before .before .args .members .now) (c .before .before .before .before .before .before .before .before .before .before .before .before .before .before .before .before .args .ends .now) (c .before .before .before .before .before .before .before .before .before .before .before .before .before .before .before .before .args .count)) (c .before .before .before .before .before .before .before .before .before .before .before .before .before .before .before .before .args .numbers .now) (c .before .before .before .before .before .before .before .before .before .before .before .before .before .before .before .before .args .out .now) (c .before .before .before .before .before .before .before .before .loop .inv) (c .before .before .before .before .before .before .before .loop-test .taken) (c .before .before .before .before .before .before .before .before .before .before .before .before .before .before .before .before .pre .2 .room) (c .before .before .before .before .before .before .before .before .before .before .before .before .before .before .before .before .pre .3) (c .before .before .put-rect .kept .0) (c .before .before .put-rect .ensures) (c .before .before .before .around-set .ensures) (c .before .before .before .before .before .members-of .ensures)
+loop-again c =
+    let start = c .before .before .before .before .before .before .before .before .before .before .before .before .before .before .before .before in
+    turn (start .args .rects .now) (start .args .chosen .now) (membersOf (start .args .members .now) (start .args .ends .now) (start .args .count)) (start .args .numbers .now) (start .args .out .now) (c .before .before .before .before .before .before .before .before .loop .inv) (c .before .before .before .before .before .before .before .loop-test .taken) (start .pre .2 .room) (start .pre .3) (c .before .before .put-rect .kept .0) (c .before .before .put-rect .ensures) (c .before .before .before .around-set .ensures) (c .before .before .before .before .before .members-of .ensures)
 
 same-length : tie.Need-same-length Inv-loop μ-loop
 same-length c = c .before .loop .inv .long
 
 returns : tie.Need-returns Inv-loop μ-loop
-returns c = done (c .before .before .before .before .before .before .before .before .before .args .rects .now) (c .before .before .before .before .before .before .before .before .before .args .chosen .now) (membersOf (c .before .before .before .before .before .before .before .before .before .args .members .now) (c .before .before .before .before .before .before .before .before .before .args .ends .now) (c .before .before .before .before .before .before .before .before .before .args .count)) (c .before .before .before .before .before .before .before .before .before .args .numbers .now) (c .before .before .before .before .before .before .before .before .before .args .out .now) (c .before .loop .inv) (c .loop-test .left)
+returns c =
+    let start = c .before .before .before .before .before .before .before .before .before in
+    done (start .args .rects .now) (start .args .chosen .now) (membersOf (start .args .members .now) (start .args .ends .now) (start .args .count)) (start .args .numbers .now) (start .args .out .now) (c .before .loop .inv) (c .loop-test .left)
 
 pub bound-spec : {M : Type 1} → statement M
 bound-spec =

@@ -137,58 +137,90 @@ members-of-requires : tie.Need-members-of-requires Inv-loop μ-loop
 members-of-requires c κs = tt
 
 shape-of-requires : tie.Need-shape-of-requires Inv-loop μ-loop
-shape-of-requires c κs = let r = roomy _ _ _ _ _ _ _ _ _ _ _ (c .before .before .before .before .before .before .before .before .before .before .before .before .before .before .before .before .before .before .pre .0 .1) (c .before .before .before .before .before .before .before .before .before .before .before .before .before .before .before .before .before .before .pre .1) (c .before .before .before .before .before .loop .inv) (c .before .before .before .before .loop-test .taken) (c .before .before .before .members-of .ensures) in
-    (c .before .before .before .before .before .before .before .before .before .before .before .before .before .before .before .before .before .before .pre .0 .0, r .0, r .1, r .2, r .3)
+shape-of-requires c κs =
+    let start = c .before .before .before .before .before .before .before .before .before .before .before .before .before .before .before .before .before .before in
+    let r = roomy _ _ _ _ _ _ _ _ _ _ _ (start .pre .0 .1) (start .pre .1) (c .before .before .before .before .before .loop .inv) (c .before .before .before .before .loop-test .taken) (c .before .before .before .members-of .ensures) in
+    (start .pre .0 .0, r .0, r .1, r .2, r .3)
 
 cast-numbers : tie.Need-cast-numbers Inv-loop μ-loop
-cast-numbers c = omega (arith, c .before .before .before .before .before .before .before .before .before .before .before .before .loop-test .taken, c .before .before .before .before .before .before .before .before .before .before .before .before .before .before .before .before .before .before .before .before .before .before .before .before .before .before .pre .0 .1 .few, c .before .before .before .before .before .before .before .before .before .before .before .before .before .before .before .before .before .before .before .before .before .before .before .before .before .before .pre .0 .0 .few)
+cast-numbers c =
+    let start = c .before .before .before .before .before .before .before .before .before .before .before .before .before .before .before .before .before .before .before .before .before .before .before .before .before .before in
+    omega (arith, c .before .before .before .before .before .before .before .before .before .before .before .before .loop-test .taken, start .pre .0 .1 .few, start .pre .0 .0 .few)
 
 mul-numbers : tie.Need-mul-numbers Inv-loop μ-loop
-mul-numbers c = omega (arith, low _ _ _ _ _ _ _ _ _ _ _ (c .before .before .before .before .before .before .before .before .before .before .before .before .before .before .before .before .before .before .before .before .before .before .before .before .before .before .pre .0 .1) (c .before .before .before .before .before .before .before .before .before .before .before .before .before .before .before .before .before .before .before .before .before .before .before .before .before .before .pre .1) (c .before .before .before .before .before .before .before .before .before .before .before .before .before .loop .inv) (c .before .before .before .before .before .before .before .before .before .before .before .before .loop-test .taken), c .before .before .before .before .before .before .before .before .before .before .before .before .before .before .before .before .before .before .before .before .before .before .before .before .before .before .pre .0 .0 .few)
+mul-numbers c =
+    let start = c .before .before .before .before .before .before .before .before .before .before .before .before .before .before .before .before .before .before .before .before .before .before .before .before .before .before in
+    omega (arith, low _ _ _ _ _ _ _ _ _ _ _ (start .pre .0 .1) (start .pre .1) (c .before .before .before .before .before .before .before .before .before .before .before .before .before .loop .inv) (c .before .before .before .before .before .before .before .before .before .before .before .before .loop-test .taken), start .pre .0 .0 .few)
 
 slice-write-numbers : tie.Need-slice-write-numbers Inv-loop μ-loop
-slice-write-numbers c = omega (arith, low _ _ _ _ _ _ _ _ _ _ _ (c .before .before .before .before .before .before .before .before .before .before .before .before .before .before .before .before .before .before .before .before .before .before .before .before .before .before .pre .0 .1) (c .before .before .before .before .before .before .before .before .before .before .before .before .before .before .before .before .before .before .before .before .before .before .before .before .before .before .pre .1) (c .before .before .before .before .before .before .before .before .before .before .before .before .before .loop .inv) (c .before .before .before .before .before .before .before .before .before .before .before .before .loop-test .taken), c .before .before .before .before .before .before .before .before .before .before .before .before .before .before .before .before .before .before .before .before .before .before .before .before .before .before .pre .1 .numbers, c .before .before .before .before .before .before .before .before .before .before .before .before .before .loop .inv .numbers)
+slice-write-numbers c =
+    let start = c .before .before .before .before .before .before .before .before .before .before .before .before .before .before .before .before .before .before .before .before .before .before .before .before .before .before in
+    omega (arith, low _ _ _ _ _ _ _ _ _ _ _ (start .pre .0 .1) (start .pre .1) (c .before .before .before .before .before .before .before .before .before .before .before .before .before .loop .inv) (c .before .before .before .before .before .before .before .before .before .before .before .before .loop-test .taken), start .pre .1 .numbers, c .before .before .before .before .before .before .before .before .before .before .before .before .before .loop .inv .numbers)
 
 sub-rows : tie.Need-sub-rows Inv-loop μ-loop
-sub-rows c = omega (arith, two-lines (c .before .before .before .before .before .before .before .before .shape-of .ensures) (c .before .if1 .taken) (short _ _ _ _ _ _ _ _ _ _ _ (c .before .before .before .before .before .before .before .before .before .before .before .before .before .before .before .before .before .before .before .before .before .before .before .before .before .before .before .pre .0 .1) (c .before .before .before .before .before .before .before .before .before .before .before .before .before .before .before .before .before .before .before .before .before .before .before .before .before .before .before .pre .1) (c .before .before .before .before .before .before .before .before .before .before .before .before .before .before .loop .inv) (c .before .before .before .before .before .before .before .before .before .before .before .before .before .loop-test .taken) (c .before .before .before .before .before .before .before .before .before .before .before .before .members-of .ensures)) .rows)
+sub-rows c =
+    let start = c .before .before .before .before .before .before .before .before .before .before .before .before .before .before .before .before .before .before .before .before .before .before .before .before .before .before .before in
+    omega (arith, two-lines (c .before .before .before .before .before .before .before .before .shape-of .ensures) (c .before .if1 .taken) (short _ _ _ _ _ _ _ _ _ _ _ (start .pre .0 .1) (start .pre .1) (c .before .before .before .before .before .before .before .before .before .before .before .before .before .before .loop .inv) (c .before .before .before .before .before .before .before .before .before .before .before .before .before .loop-test .taken) (c .before .before .before .before .before .before .before .before .before .before .before .before .members-of .ensures)) .rows)
 
 cast-rows : tie.Need-cast-rows Inv-loop μ-loop
-cast-rows c = omega (arith, two-lines (c .before .before .before .before .before .before .before .before .shape-of .ensures) (c .before .if1 .taken) (short _ _ _ _ _ _ _ _ _ _ _ (c .before .before .before .before .before .before .before .before .before .before .before .before .before .before .before .before .before .before .before .before .before .before .before .before .before .before .before .pre .0 .1) (c .before .before .before .before .before .before .before .before .before .before .before .before .before .before .before .before .before .before .before .before .before .before .before .before .before .before .before .pre .1) (c .before .before .before .before .before .before .before .before .before .before .before .before .before .before .loop .inv) (c .before .before .before .before .before .before .before .before .before .before .before .before .before .loop-test .taken) (c .before .before .before .before .before .before .before .before .before .before .before .before .members-of .ensures)) .few-rows, c .before .before .before .before .before .before .before .before .before .before .before .before .before .before .before .before .before .before .before .before .before .before .before .before .before .before .before .pre .0 .0 .few)
+cast-rows c =
+    let start = c .before .before .before .before .before .before .before .before .before .before .before .before .before .before .before .before .before .before .before .before .before .before .before .before .before .before .before in
+    omega (arith, two-lines (c .before .before .before .before .before .before .before .before .shape-of .ensures) (c .before .if1 .taken) (short _ _ _ _ _ _ _ _ _ _ _ (start .pre .0 .1) (start .pre .1) (c .before .before .before .before .before .before .before .before .before .before .before .before .before .before .loop .inv) (c .before .before .before .before .before .before .before .before .before .before .before .before .before .loop-test .taken) (c .before .before .before .before .before .before .before .before .before .before .before .before .members-of .ensures)) .few-rows, start .pre .0 .0 .few)
 
 mul-rows : tie.Need-mul-rows Inv-loop μ-loop
-mul-rows c = omega (arith, low _ _ _ _ _ _ _ _ _ _ _ (c .before .before .before .before .before .before .before .before .before .before .before .before .before .before .before .before .before .before .before .before .before .before .before .before .before .before .before .pre .0 .1) (c .before .before .before .before .before .before .before .before .before .before .before .before .before .before .before .before .before .before .before .before .before .before .before .before .before .before .before .pre .1) (c .before .before .before .before .before .before .before .before .before .before .before .before .before .before .loop .inv) (c .before .before .before .before .before .before .before .before .before .before .before .before .before .loop-test .taken), c .before .before .before .before .before .before .before .before .before .before .before .before .before .before .before .before .before .before .before .before .before .before .before .before .before .before .before .pre .0 .0 .few)
+mul-rows c =
+    let start = c .before .before .before .before .before .before .before .before .before .before .before .before .before .before .before .before .before .before .before .before .before .before .before .before .before .before .before in
+    omega (arith, low _ _ _ _ _ _ _ _ _ _ _ (start .pre .0 .1) (start .pre .1) (c .before .before .before .before .before .before .before .before .before .before .before .before .before .before .loop .inv) (c .before .before .before .before .before .before .before .before .before .before .before .before .before .loop-test .taken), start .pre .0 .0 .few)
 
 slice-write-rows : tie.Need-slice-write-rows Inv-loop μ-loop
-slice-write-rows c = omega (arith, low _ _ _ _ _ _ _ _ _ _ _ (c .before .before .before .before .before .before .before .before .before .before .before .before .before .before .before .before .before .before .before .before .before .before .before .before .before .before .before .pre .0 .1) (c .before .before .before .before .before .before .before .before .before .before .before .before .before .before .before .before .before .before .before .before .before .before .before .before .before .before .before .pre .1) (c .before .before .before .before .before .before .before .before .before .before .before .before .before .before .loop .inv) (c .before .before .before .before .before .before .before .before .before .before .before .before .before .loop-test .taken), c .before .before .before .before .before .before .before .before .before .before .before .before .before .before .before .before .before .before .before .before .before .before .before .before .before .before .before .pre .1 .rows, c .before .before .before .before .before .before .before .before .before .before .before .before .before .before .loop .inv .rows)
+slice-write-rows c =
+    let start = c .before .before .before .before .before .before .before .before .before .before .before .before .before .before .before .before .before .before .before .before .before .before .before .before .before .before .before in
+    omega (arith, low _ _ _ _ _ _ _ _ _ _ _ (start .pre .0 .1) (start .pre .1) (c .before .before .before .before .before .before .before .before .before .before .before .before .before .before .loop .inv) (c .before .before .before .before .before .before .before .before .before .before .before .before .before .loop-test .taken), start .pre .1 .rows, c .before .before .before .before .before .before .before .before .before .before .before .before .before .before .loop .inv .rows)
 
 sub-columns : tie.Need-sub-columns Inv-loop μ-loop
-sub-columns c = omega (arith, two-lines (c .before .before .before .before .before .before .before .before .before .shape-of .ensures) (c .before .before .if1 .taken) (short _ _ _ _ _ _ _ _ _ _ _ (c .before .before .before .before .before .before .before .before .before .before .before .before .before .before .before .before .before .before .before .before .before .before .before .before .before .before .before .before .pre .0 .1) (c .before .before .before .before .before .before .before .before .before .before .before .before .before .before .before .before .before .before .before .before .before .before .before .before .before .before .before .before .pre .1) (c .before .before .before .before .before .before .before .before .before .before .before .before .before .before .before .loop .inv) (c .before .before .before .before .before .before .before .before .before .before .before .before .before .before .loop-test .taken) (c .before .before .before .before .before .before .before .before .before .before .before .before .before .members-of .ensures)) .columns)
+sub-columns c =
+    let start = c .before .before .before .before .before .before .before .before .before .before .before .before .before .before .before .before .before .before .before .before .before .before .before .before .before .before .before .before in
+    omega (arith, two-lines (c .before .before .before .before .before .before .before .before .before .shape-of .ensures) (c .before .before .if1 .taken) (short _ _ _ _ _ _ _ _ _ _ _ (start .pre .0 .1) (start .pre .1) (c .before .before .before .before .before .before .before .before .before .before .before .before .before .before .before .loop .inv) (c .before .before .before .before .before .before .before .before .before .before .before .before .before .before .loop-test .taken) (c .before .before .before .before .before .before .before .before .before .before .before .before .before .members-of .ensures)) .columns)
 
 cast-columns : tie.Need-cast-columns Inv-loop μ-loop
-cast-columns c = omega (arith, two-lines (c .before .before .before .before .before .before .before .before .before .shape-of .ensures) (c .before .before .if1 .taken) (short _ _ _ _ _ _ _ _ _ _ _ (c .before .before .before .before .before .before .before .before .before .before .before .before .before .before .before .before .before .before .before .before .before .before .before .before .before .before .before .before .pre .0 .1) (c .before .before .before .before .before .before .before .before .before .before .before .before .before .before .before .before .before .before .before .before .before .before .before .before .before .before .before .before .pre .1) (c .before .before .before .before .before .before .before .before .before .before .before .before .before .before .before .loop .inv) (c .before .before .before .before .before .before .before .before .before .before .before .before .before .before .loop-test .taken) (c .before .before .before .before .before .before .before .before .before .before .before .before .before .members-of .ensures)) .few-columns, c .before .before .before .before .before .before .before .before .before .before .before .before .before .before .before .before .before .before .before .before .before .before .before .before .before .before .before .before .pre .0 .0 .few)
+cast-columns c =
+    let start = c .before .before .before .before .before .before .before .before .before .before .before .before .before .before .before .before .before .before .before .before .before .before .before .before .before .before .before .before in
+    omega (arith, two-lines (c .before .before .before .before .before .before .before .before .before .shape-of .ensures) (c .before .before .if1 .taken) (short _ _ _ _ _ _ _ _ _ _ _ (start .pre .0 .1) (start .pre .1) (c .before .before .before .before .before .before .before .before .before .before .before .before .before .before .before .loop .inv) (c .before .before .before .before .before .before .before .before .before .before .before .before .before .before .loop-test .taken) (c .before .before .before .before .before .before .before .before .before .before .before .before .before .members-of .ensures)) .few-columns, start .pre .0 .0 .few)
 
 mul-columns : tie.Need-mul-columns Inv-loop μ-loop
-mul-columns c = omega (arith, low _ _ _ _ _ _ _ _ _ _ _ (c .before .before .before .before .before .before .before .before .before .before .before .before .before .before .before .before .before .before .before .before .before .before .before .before .before .before .before .before .pre .0 .1) (c .before .before .before .before .before .before .before .before .before .before .before .before .before .before .before .before .before .before .before .before .before .before .before .before .before .before .before .before .pre .1) (c .before .before .before .before .before .before .before .before .before .before .before .before .before .before .before .loop .inv) (c .before .before .before .before .before .before .before .before .before .before .before .before .before .before .loop-test .taken), c .before .before .before .before .before .before .before .before .before .before .before .before .before .before .before .before .before .before .before .before .before .before .before .before .before .before .before .before .pre .0 .0 .few)
+mul-columns c =
+    let start = c .before .before .before .before .before .before .before .before .before .before .before .before .before .before .before .before .before .before .before .before .before .before .before .before .before .before .before .before in
+    omega (arith, low _ _ _ _ _ _ _ _ _ _ _ (start .pre .0 .1) (start .pre .1) (c .before .before .before .before .before .before .before .before .before .before .before .before .before .before .before .loop .inv) (c .before .before .before .before .before .before .before .before .before .before .before .before .before .before .loop-test .taken), start .pre .0 .0 .few)
 
 slice-write-columns : tie.Need-slice-write-columns Inv-loop μ-loop
-slice-write-columns c = omega (arith, low _ _ _ _ _ _ _ _ _ _ _ (c .before .before .before .before .before .before .before .before .before .before .before .before .before .before .before .before .before .before .before .before .before .before .before .before .before .before .before .before .pre .0 .1) (c .before .before .before .before .before .before .before .before .before .before .before .before .before .before .before .before .before .before .before .before .before .before .before .before .before .before .before .before .pre .1) (c .before .before .before .before .before .before .before .before .before .before .before .before .before .before .before .loop .inv) (c .before .before .before .before .before .before .before .before .before .before .before .before .before .before .loop-test .taken), c .before .before .before .before .before .before .before .before .before .before .before .before .before .before .before .before .before .before .before .before .before .before .before .before .before .before .before .before .pre .1 .columns, c .before .before .before .before .before .before .before .before .before .before .before .before .before .before .before .loop .inv .columns)
+slice-write-columns c =
+    let start = c .before .before .before .before .before .before .before .before .before .before .before .before .before .before .before .before .before .before .before .before .before .before .before .before .before .before .before .before in
+    omega (arith, low _ _ _ _ _ _ _ _ _ _ _ (start .pre .0 .1) (start .pre .1) (c .before .before .before .before .before .before .before .before .before .before .before .before .before .before .before .loop .inv) (c .before .before .before .before .before .before .before .before .before .before .before .before .before .before .loop-test .taken), start .pre .1 .columns, c .before .before .before .before .before .before .before .before .before .before .before .before .before .before .before .loop .inv .columns)
 
 add-tables : tie.Need-add-tables Inv-loop μ-loop
-add-tables c = omega (arith, low _ _ _ _ _ _ _ _ _ _ _ (c .before .before .before .before .before .before .before .before .before .before .before .before .before .before .before .before .before .before .before .before .before .before .before .before .before .before .before .before .pre .0 .1) (c .before .before .before .before .before .before .before .before .before .before .before .before .before .before .before .before .before .before .before .before .before .before .before .before .before .before .before .before .pre .1) (c .before .before .before .before .before .before .before .before .before .before .before .before .before .before .before .loop .inv) (c .before .before .before .before .before .before .before .before .before .before .before .before .before .before .loop-test .taken), c .before .before .before .before .before .before .before .before .before .before .before .before .before .before .before .before .before .before .before .before .before .before .before .before .before .before .before .before .pre .0 .0 .few)
+add-tables c =
+    let start = c .before .before .before .before .before .before .before .before .before .before .before .before .before .before .before .before .before .before .before .before .before .before .before .before .before .before .before .before in
+    omega (arith, low _ _ _ _ _ _ _ _ _ _ _ (start .pre .0 .1) (start .pre .1) (c .before .before .before .before .before .before .before .before .before .before .before .before .before .before .before .loop .inv) (c .before .before .before .before .before .before .before .before .before .before .before .before .before .before .loop-test .taken), start .pre .0 .0 .few)
 
 append-requires : tie.Need-append-requires Inv-loop μ-loop
-append-requires c κs = fits _ _ _ _ _ _ _ _ _ _ _ (c .before .before .before .before .before .before .before .before .before .before .before .before .before .before .before .before .before .before .before .before .before .before .before .before .before .before .before .pre .0 .1) (c .before .before .before .before .before .before .before .before .before .before .before .before .before .before .before .before .before .before .before .before .before .before .before .before .before .before .before .pre .1) (c .before .before .before .before .before .before .before .before .before .before .before .before .before .before .loop .inv) (c .before .before .before .before .before .before .before .before .before .before .before .before .before .loop-test .taken) (c .before .before .before .before .before .before .before .before .before .before .before .before .members-of .ensures)
+append-requires c κs =
+    let start = c .before .before .before .before .before .before .before .before .before .before .before .before .before .before .before .before .before .before .before .before .before .before .before .before .before .before .before in
+    fits _ _ _ _ _ _ _ _ _ _ _ (start .pre .0 .1) (start .pre .1) (c .before .before .before .before .before .before .before .before .before .before .before .before .before .before .loop .inv) (c .before .before .before .before .before .before .before .before .before .before .before .before .before .loop-test .taken) (c .before .before .before .before .before .before .before .before .before .before .before .before .members-of .ensures)
 
 add-k : tie.Need-add-k Inv-loop μ-loop
-add-k c = omega (arith, c .before .before .before .before .before .before .before .before .before .before .before .before .loop-test .taken, c .before .before .before .before .before .before .before .before .before .before .before .before .before .before .before .before .before .before .before .before .before .before .before .before .before .before .pre .0 .1 .few, c .before .before .before .before .before .before .before .before .before .before .before .before .before .before .before .before .before .before .before .before .before .before .before .before .before .before .pre .0 .0 .few)
+add-k c =
+    let start = c .before .before .before .before .before .before .before .before .before .before .before .before .before .before .before .before .before .before .before .before .before .before .before .before .before .before in
+    omega (arith, c .before .before .before .before .before .before .before .before .before .before .before .before .loop-test .taken, start .pre .0 .1 .few, start .pre .0 .0 .few)
 
 loop-less : tie.Need-loop-less Inv-loop μ-loop
 loop-less c = omega (arith, c .before .before .before .before .before .before .before .before .before .before .before .before .loop-test .taken)
 
 loop-again : tie.Need-loop-again Inv-loop μ-loop
-loop-again c = ⊎-elim
-    (λ w. moved _ _ _ _ _ _ _ _ _ _ _ (table _ _ _ _ _ _ _ _ _ _ _ (c .before .before .before .before .before .before .before .before .before .before .before .before .before .before .before .before .before .before .before .before .before .before .before .before .before .before .pre .0 .1) (c .before .before .before .before .before .before .before .before .before .before .before .before .before .before .before .before .before .before .before .before .before .before .before .before .before .before .pre .1) (c .before .before .before .before .before .before .before .before .before .before .before .before .before .loop .inv) (c .before .before .before .before .before .before .before .before .before .before .before .before .loop-test .taken) (c .before .before .before .before .before .before .before .before .before .before .before .members-of .ensures) (c .before .before .before .before .before .before .before .shape-of .ensures) (c .before .before .before .before .before .before .before .shape-of .kept .1 .1 .1 .1 .1 .0) (c .before .before .before .before .before .before .before .shape-of .kept .1 .1 .1 .1 .1 .1 .0) (c .before .before .before .before .before .before .before .shape-of .kept .1 .1 .1 .1 .1 .1 .1 .0) (w .0 .taken)) (w .3) (w .4) (w .5) (w .6) (w .7) (w .8))
-    (λ w. moved _ _ _ _ _ _ _ _ _ _ _ (refused _ _ _ _ _ _ _ _ _ _ _ (c .before .before .before .before .before .before .before .before .before .before .before .before .before .before .before .before .before .before .before .before .before .before .before .before .before .before .pre .0 .1) (c .before .before .before .before .before .before .before .before .before .before .before .before .before .before .before .before .before .before .before .before .before .before .before .before .before .before .pre .1) (c .before .before .before .before .before .before .before .before .before .before .before .before .before .loop .inv) (c .before .before .before .before .before .before .before .before .before .before .before .before .loop-test .taken) (c .before .before .before .before .before .before .before .before .before .before .before .members-of .ensures) (c .before .before .before .before .before .before .before .shape-of .ensures) (c .before .before .before .before .before .before .before .shape-of .kept .1 .1 .1 .1 .1 .0) (c .before .before .before .before .before .before .before .shape-of .kept .1 .1 .1 .1 .1 .1 .0) (c .before .before .before .before .before .before .before .shape-of .kept .1 .1 .1 .1 .1 .1 .1 .0) (w .0 .left) (w .2 .kept .1 .0) (w .2 .ensures .0) (w .2 .ensures .1)) (w .5) (w .6) (w .7) (w .8) (w .9) (w .10))
+loop-again c =
+    let start = c .before .before .before .before .before .before .before .before .before .before .before .before .before .before .before .before .before .before .before .before .before .before .before .before .before .before in
+    ⊎-elim
+    (λ w. moved _ _ _ _ _ _ _ _ _ _ _ (table _ _ _ _ _ _ _ _ _ _ _ (start .pre .0 .1) (start .pre .1) (c .before .before .before .before .before .before .before .before .before .before .before .before .before .loop .inv) (c .before .before .before .before .before .before .before .before .before .before .before .before .loop-test .taken) (c .before .before .before .before .before .before .before .before .before .before .before .members-of .ensures) (c .before .before .before .before .before .before .before .shape-of .ensures) (c .before .before .before .before .before .before .before .shape-of .kept .1 .1 .1 .1 .1 .0) (c .before .before .before .before .before .before .before .shape-of .kept .1 .1 .1 .1 .1 .1 .0) (c .before .before .before .before .before .before .before .shape-of .kept .1 .1 .1 .1 .1 .1 .1 .0) (w .0 .taken)) (w .3) (w .4) (w .5) (w .6) (w .7) (w .8))
+    (λ w. moved _ _ _ _ _ _ _ _ _ _ _ (refused _ _ _ _ _ _ _ _ _ _ _ (start .pre .0 .1) (start .pre .1) (c .before .before .before .before .before .before .before .before .before .before .before .before .before .loop .inv) (c .before .before .before .before .before .before .before .before .before .before .before .before .loop-test .taken) (c .before .before .before .before .before .before .before .before .before .before .before .members-of .ensures) (c .before .before .before .before .before .before .before .shape-of .ensures) (c .before .before .before .before .before .before .before .shape-of .kept .1 .1 .1 .1 .1 .0) (c .before .before .before .before .before .before .before .shape-of .kept .1 .1 .1 .1 .1 .1 .0) (c .before .before .before .before .before .before .before .shape-of .kept .1 .1 .1 .1 .1 .1 .1 .0) (w .0 .left) (w .2 .kept .1 .0) (w .2 .ensures .0) (w .2 .ensures .1)) (w .5) (w .6) (w .7) (w .8) (w .9) (w .10))
     (c .if1 .came)
 
 same-length : tie.Need-same-length Inv-loop μ-loop

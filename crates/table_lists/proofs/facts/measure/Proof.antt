@@ -56,7 +56,9 @@ loop-holds : tie.Need-loop-holds Inv-loop μ-loop
 loop-holds c = record { up-to = omega arith; long = refl; wide = refl; rulings = refl; shares = refl }
 
 mul-members-of : tie.Need-mul-members-of Inv-loop μ-loop
-mul-members-of c = scaled-fits (c .before .loop .t) (length (c .before .before .before .before .before .before .before .before .before .before .args .numbers .now)) 4 (omega (arith, c .loop-test .taken, c .before .before .before .before .before .before .before .before .before .before .pre .0 .3 .room)) (c .before .before .before .before .before .before .before .before .before .before .good .1 .1 .1 .1 .1 .1 .1 .0 .1)
+mul-members-of c =
+    let start = c .before .before .before .before .before .before .before .before .before .before in
+    scaled-fits (c .before .loop .t) (length (start .args .numbers .now)) 4 (omega (arith, c .loop-test .taken, start .pre .0 .3 .room)) (start .good .1 .1 .1 .1 .1 .1 .1 .0 .1)
 
 shared-slice-read-members-of : tie.Need-shared-slice-read-members-of Inv-loop μ-loop
 shared-slice-read-members-of c = omega (arith, c .before .loop-test .taken, c .before .before .before .before .before .before .before .before .before .before .before .pre .0 .3 .room)
@@ -68,8 +70,10 @@ members-of-requires : tie.Need-members-of-requires Inv-loop μ-loop
 members-of-requires c κs = tt
 
 cast-rulings : tie.Need-cast-rulings Inv-loop μ-loop
-cast-rulings c = let r = set-read (c .before .before .before .before .before .before .before .before .before .before .before .before .pre .0 .2) (c .before .before .before .before .before .before .before .before .before .before .before .before .pre .0 .3 .low (c .before .before .before .loop .t) (c .before .before .loop-test .taken)) (c .members-of .ensures) in
-    omega (arith, r .0 .short, c .before .before .before .before .before .before .before .before .before .before .before .before .pre .0 .1 .few)
+cast-rulings c =
+    let start = c .before .before .before .before .before .before .before .before .before .before .before .before in
+    let r = set-read (start .pre .0 .2) (start .pre .0 .3 .low (c .before .before .before .loop .t) (c .before .before .loop-test .taken)) (c .members-of .ensures) in
+    omega (arith, r .0 .short, start .pre .0 .1 .few)
 
 mul-rulings : tie.Need-mul-rulings Inv-loop μ-loop
 mul-rulings c = omega (arith, c .before .before .loop-test .taken, c .before .before .before .before .before .before .before .before .before .before .before .before .pre .1 .0, c .before .before .before .loop .inv .long)
@@ -78,8 +82,10 @@ slice-write-rulings : tie.Need-slice-write-rulings Inv-loop μ-loop
 slice-write-rulings c = omega (arith, c .before .before .loop-test .taken, c .before .before .before .before .before .before .before .before .before .before .before .before .pre .1 .0, c .before .before .before .loop .inv .long)
 
 share-requires : tie.Need-share-requires Inv-loop μ-loop
-share-requires c κs = let r = set-read (c .before .before .before .before .before .before .before .before .before .before .before .before .pre .0 .2) (c .before .before .before .before .before .before .before .before .before .before .before .before .pre .0 .3 .low (c .before .before .before .loop .t) (c .before .before .loop-test .taken)) (c .members-of .ensures) in
-    (c .before .before .before .before .before .before .before .before .before .before .before .before .pre .0 .0, c .before .before .before .before .before .before .before .before .before .before .before .before .pre .0 .1, r .0)
+share-requires c κs =
+    let start = c .before .before .before .before .before .before .before .before .before .before .before .before in
+    let r = set-read (start .pre .0 .2) (start .pre .0 .3 .low (c .before .before .before .loop .t) (c .before .before .loop-test .taken)) (c .members-of .ensures) in
+    (start .pre .0 .0, start .pre .0 .1, r .0)
 
 mul-shares : tie.Need-mul-shares Inv-loop μ-loop
 mul-shares c = omega (arith, c .before .before .before .loop-test .taken, c .before .before .before .before .before .before .before .before .before .before .before .before .before .pre .1 .1, c .before .before .before .before .loop .inv .wide)
@@ -94,7 +100,9 @@ loop-less : tie.Need-loop-less Inv-loop μ-loop
 loop-less c = omega (arith, c .before .before .before .loop-test .taken)
 
 loop-again : tie.Need-loop-again Inv-loop μ-loop
-loop-again c = turn (c .before .before .before .before .before .before .before .before .before .before .before .before .before .args .join) (rulingAt (c .before .before .before .before .before .before .before .before .before .before .before .before .before .args .rects .now) (c .before .before .before .before .before .before .before .before .before .before .before .before .before .args .directions .now) (c .before .before .before .before .before .before .before .before .before .before .before .before .before .args .chosen .now)) (membersOf (c .before .before .before .before .before .before .before .before .before .before .before .before .before .args .members .now) (c .before .before .before .before .before .before .before .before .before .before .before .before .before .args .ends .now) (c .before .before .before .before .before .before .before .before .before .before .before .before .before .args .count)) (c .before .before .before .before .before .before .before .before .before .before .before .before .before .args .numbers .now) (c .before .before .before .before .before .before .before .before .before .before .before .before .before .args .rulings .now) (c .before .before .before .before .before .before .before .before .before .before .before .before .before .args .shares .now) (c .before .before .before .before .loop .inv) (c .before .before .before .loop-test .taken) (c .before .before .before .before .before .before .before .before .before .before .before .before .before .pre .0 .3 .room) (c .before .before .before .before .before .before .before .before .before .before .before .before .before .pre .1 .0) (c .before .before .before .before .before .before .before .before .before .before .before .before .before .pre .1 .1) (c .before .members-of .ensures) (c .share .ensures)
+loop-again c =
+    let start = c .before .before .before .before .before .before .before .before .before .before .before .before .before in
+    turn (start .args .join) (rulingAt (start .args .rects .now) (start .args .directions .now) (start .args .chosen .now)) (membersOf (start .args .members .now) (start .args .ends .now) (start .args .count)) (start .args .numbers .now) (start .args .rulings .now) (start .args .shares .now) (c .before .before .before .before .loop .inv) (c .before .before .before .loop-test .taken) (start .pre .0 .3 .room) (start .pre .1 .0) (start .pre .1 .1) (c .before .members-of .ensures) (c .share .ensures)
 
 same-length : tie.Need-same-length Inv-loop μ-loop
 same-length c = c .before .loop .inv .long
@@ -103,7 +111,9 @@ same-length-2 : tie.Need-same-length-2 Inv-loop μ-loop
 same-length-2 c = c .before .loop .inv .wide
 
 returns : tie.Need-returns Inv-loop μ-loop
-returns c = done (c .before .before .before .before .before .before .before .before .before .before .args .join) (rulingAt (c .before .before .before .before .before .before .before .before .before .before .args .rects .now) (c .before .before .before .before .before .before .before .before .before .before .args .directions .now) (c .before .before .before .before .before .before .before .before .before .before .args .chosen .now)) (membersOf (c .before .before .before .before .before .before .before .before .before .before .args .members .now) (c .before .before .before .before .before .before .before .before .before .before .args .ends .now) (c .before .before .before .before .before .before .before .before .before .before .args .count)) (c .before .before .before .before .before .before .before .before .before .before .args .numbers .now) (c .before .before .before .before .before .before .before .before .before .before .args .rulings .now) (c .before .before .before .before .before .before .before .before .before .before .args .shares .now) (c .before .loop .inv) (c .loop-test .left)
+returns c =
+    let start = c .before .before .before .before .before .before .before .before .before .before in
+    done (start .args .join) (rulingAt (start .args .rects .now) (start .args .directions .now) (start .args .chosen .now)) (membersOf (start .args .members .now) (start .args .ends .now) (start .args .count)) (start .args .numbers .now) (start .args .rulings .now) (start .args .shares .now) (c .before .loop .inv) (c .loop-test .left)
 
 pub measure-spec : {M : Type 1} → statement M
 measure-spec =

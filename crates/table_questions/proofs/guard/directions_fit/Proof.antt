@@ -48,7 +48,9 @@ shared-slice-read-if2 : tie.Need-shared-slice-read-if2 Inv-loop μ-loop
 shared-slice-read-if2 c = c .before .loop-test .taken
 
 returns-2 : tie.Need-returns-2 Inv-loop μ-loop
-returns-2 c = fails (c .before .before .before .before .before .args .rects .now) (c .before .before .before .before .before .args .directions .now) (c .before .before .before .loop .k) (c .before .before .before .before .if1 .left) (c .before .before .loop-test .taken) (c .if2 .taken)
+returns-2 c =
+    let start = c .before .before .before .before .before in
+    fails (start .args .rects .now) (start .args .directions .now) (c .before .before .before .loop .k) (c .before .before .before .before .if1 .left) (c .before .before .loop-test .taken) (c .if2 .taken)
 
 add-k : tie.Need-add-k Inv-loop μ-loop
 add-k c = omega (arith, c .before .before .loop-test .taken, c .before .before .before .before .before .good .1 .0 .0)
