@@ -3,20 +3,23 @@ use mathlib.Core.Path.{_≡_, refl, sym, ap, _∙_}
 use mathlib.Core.Bool.{Bool, true, false, cond, not, _&&_, false≢true}
 use mathlib.Core.Logic.{_⊎_, inl, inr, ⊎-elim}
 use mathlib.Core.List.{List, [], _∷_, _++_, Memᴰ·append-left, Memᴰ·append-right, List·Memᴰ·head, List·Memᴰ·append-cases, List·Memᴰ·eq-of-singleton}
-use Prim.Native.Nat.{ℕ, _+_, _≤_, _<_}
+use Prim.Native.Nat.{ℕ, _+_, _≤_, _<_, min, max}
 use native.Mathlib.Decide.{ℕ-discrete}
 use native.Mathlib.Numerals.{add-one}
 use native.Mathlib.Omega.{arith}
+use lib.Dec.{eqb}
 use lib.ListN.{length, getD, take}
 use lib.Seq.{take-suc, take-all}
+use borrow.Author.Tests.{eqb-true}
 use Rattle.lists.specs.Lists.{In, below, written}
 use Rattle.lists.proofs.Every.{and-first}
 use Rattle.lists.proofs.Keep.{in-below, below-in, in-kept, kept-in, at-in}
 use Rattle.sets.specs.Closed.{Below}
 use Rattle.sets.specs.Joins.{Joins}
-use Rattle.sets.specs.Parents.{Room, Joined}
+use Rattle.sets.specs.Parents.{Room, Parents, root, merged, Joined}
 use Rattle.sets.proofs.Chains.{chain-step}
 use Rattle.sets.proofs.Joins.{joins-none, joins-more, joins-same, joins-exchange}
+use Rattle.sets.proofs.Roots.{root-parent}
 use Rattle.meeting.specs.declared.segment.Segment.{Segment}
 use Rattle.meeting.specs.Segments.{opposite, spanHolds, touches}
 use Rattle.meeting.specs.Meeting.{Touch}
@@ -40,6 +43,26 @@ one-lies join a b e = go (a .horizontal) refl (touch-opposite join a b e)
     go : (t : Bool) → a .horizontal ≡ t → cond t (not (b .horizontal)) (b .horizontal) ≡ true → (a .horizontal ≡ true) ⊎ (b .horizontal ≡ true)
     go true f o = inl f
     go false f o = inr o
+
+-- a pair with one parent is one set already, so that joining it changes nothing
+merged-self : (x k : ℕ) → merged x x k ≡ k
+merged-self x k = go (eqb k (max x x)) refl
+  where
+    go : (t : Bool) → eqb k (max x x) ≡ t → cond t (min x x) k ≡ k
+    go true e = let f : k ≡ max x x = eqb-true k (max x x) e in omega arith
+    go false e = refl
+
+pub joined-apart : {n i j : ℕ} {p q : List ℕ} (touch apart : Bool) → Parents n p → i < n → j < n → (apart ≡ false → getD p i 0 ≡ getD p j 0)
+    → Joined n p i j (touch && apart) q → Joined n p i j touch q
+joined-apart false apart P li lj one J = J
+joined-apart true true P li lj one J = J
+joined-apart {n} {i} {j} {p} {q} true false P li lj one J =
+    let same : root p i ≡ root p j = sym (root-parent P i li) ∙ ap (root p) (one refl) ∙ root-parent P j lj in
+    record {
+      parents = J .parents;
+      roots = λ k m. J .roots k m ∙ sym (ap (λ (x : ℕ). merged x (root p j) (root p k)) same ∙ merged-self (root p j) (root p k));
+      kept = J .kept;
+    }
 
 module _ (join : ℕ) (s : ℕ → Segment) (n : ℕ) where
   pub none-tried : {p : List ℕ} → Room n p → Joins n (Below n) (Tried join s 0) (written (below n) p)

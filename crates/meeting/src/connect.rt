@@ -11,7 +11,7 @@ ghost use Rattle.meeting.specs.Steps.{Given, verticalsOf, Tried, Connect
 use crate::listing;
 use crate::segment;
 
-// Joins the ruling at index i, if it is horizontal, with every vertical one that it touches.
+// Joins the ruling at index i, if it is horizontal, with every vertical one that it touches. Two with the same parent are one already.
 fn join_row(
     rects: &[u32],
     directions: &[u32],
@@ -36,7 +36,8 @@ fn join_row(
         let j = verticals[k] as usize;
         let b = segment::vertical_at(rects, directions, chosen, j);
         let touch = segment::touches(a, b, join);
-        sets::join_if(parents, n, i, j, touch);
+        let apart = parents[i] != parents[j];
+        sets::join_if(parents, n, i, j, touch & apart);
         k += 1;
     }
 }

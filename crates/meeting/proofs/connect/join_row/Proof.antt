@@ -1,11 +1,12 @@
--- `connect::join_row` meets its contract: each turn tries one vertical more.
+-- `connect::join_row` meets its contract: each turn tries one vertical more; a pair with one parent is joined already.
 use mathlib.Core.Path.{_≡_, refl, sym, ap, ap₂, _∙_}
-use mathlib.Core.Bool.{Bool, true, false, not}
+use mathlib.Core.Bool.{Bool, true, false, not, _&&_}
 use mathlib.Core.List.{List}
 use Prim.Native.Nat.{ℕ, _+_, _-_, _≤_, _<_}
 use native.Mathlib.Omega.{arith}
 use borrow.Author.Needs.{scaled-fits}
-use borrow.Author.Tests.{not-true, not-false}
+use borrow.Author.Tests.{eqb-true, not-true, not-false}
+use lib.Dec.{eqb}
 use lib.ListN.{length, getD}
 use Rattle.lists.specs.Lists.{below}
 use Rattle.lists.proofs.Keep.{length-below, below-in, kept-in, at-in}
@@ -16,9 +17,12 @@ use Rattle.sets.specs.Parents.{Joined}
 use Rattle.meeting.specs.declared.segment.Segment.{Segment}
 use Rattle.meeting.specs.Segments.{rulingAt, touches}
 use Rattle.meeting.specs.Steps.{verticalsOf, Tried}
-use Rattle.meeting.proofs.Crossing.{InRow, row-none, row-begin, row-next, row-end}
+use Rattle.meeting.proofs.Crossing.{joined-apart, InRow, row-none, row-begin, row-next, row-end}
 use Rattle.meeting.proofs.connect.join_row.Statement.{statement}
 use Rattle.meeting.proofs.connect.join_row.Tie as tie
+
+one-parent : (x y : ℕ) → not (eqb x y) ≡ false → x ≡ y
+one-parent x y e = eqb-true x y (not-false (eqb x y) e)
 
 module _ (join : ℕ) (s : ℕ → Segment) (n : ℕ) where
   record Row (p : List ℕ) (i : ℕ) (a : Segment) (q : List ℕ) (k : ℕ) : Type 0 where
@@ -47,7 +51,7 @@ module _ (join : ℕ) (s : ℕ → Segment) (n : ℕ) where
 
   turn : {p : List ℕ} {i : ℕ} {q q′ vs : List ℕ} {k : ℕ} {a b : Segment} {t : Bool} → Row p i a q k → i < n → vs ≡ verticalsOf s n → k < length vs
       → b ≡ s (getD vs k 0) → t ≡ touches join a b → length q′ ≡ length q
-      → Joined n q i (getD vs k 0) t q′ → Row p i a q′ (k + 1)
+      → Joined n q i (getD vs k 0) (t && not (eqb (getD q i 0) (getD q (getD vs k 0) 0))) q′ → Row p i a q′ (k + 1)
   turn {i = i} {q = q} {vs = vs} {k = k} {t = t} W li e h eb et long J =
       let at : k < length (verticalsOf s n) = rw e at h in
       record {
@@ -56,7 +60,8 @@ module _ (join : ℕ) (s : ℕ → Segment) (n : ℕ) where
         up-to = omega arith;
         long = long ∙ W .long;
         seen =
-            row-next join s n t (W .seen) li at (ap (λ (l : List ℕ). getD l k 0) e) (W .lies) (et ∙ ap₂ (touches join) (W .read) eb) J;
+            row-next join s n t (W .seen) li at (ap (λ (l : List ℕ). getD l k 0) e) (W .lies) (et ∙ ap₂ (touches join) (W .read) eb)
+            (joined-apart t (not (eqb (getD q i 0) (getD q (getD vs k 0) 0))) (W .seen .parents) li (vertical k e h .0) (λ u. one-parent (getD q i 0) (getD q (getD vs k 0) 0) u) J);
       }
 
   done : {p : List ℕ} {i : ℕ} {a : Segment} {q vs : List ℕ} {k : ℕ} → Row p i a q k → vs ≡ verticalsOf s n → length vs ≤ k
@@ -109,23 +114,41 @@ touches-requires c κs =
     let start = c .before .before .before .before .before .before .before .before .before .before .before .before in
     let m = crossing (start .args .join) (rulingAt (start .args .rects .now) (start .args .directions .now) (start .args .chosen .now)) (length (start .args .chosen .now)) (c .before .before .before .before .before .before .ruling-at .ensures) (c .before .before .before .loop .inv .lies) (c .vertical-at .ensures) (vertical (start .args .join) (rulingAt (start .args .rects .now) (start .args .directions .now) (start .args .chosen .now)) (length (start .args .chosen .now)) (c .before .before .before .loop .k) (start .pre .0 .2) (c .before .before .loop-test .taken) .1) in (start .pre .0 .0, m .0, m .1)
 
+mul-apart : tie.Need-mul-apart Inv-loop μ-loop
+mul-apart c =
+    let start = c .before .before .before .before .before .before .before .before .before .before .before .before .before in
+    omega (arith, start .pre .0 .3, start .pre .0 .1 .few)
+
+slice-read-apart : tie.Need-slice-read-apart Inv-loop μ-loop
+slice-read-apart c = omega (arith, c .before .before .before .before .before .before .before .before .before .before .before .before .before .before .pre .0 .3, c .before .before .before .before .before .loop .inv .seen .parents .room)
+
+mul-apart-2 : tie.Need-mul-apart-2 Inv-loop μ-loop
+mul-apart-2 c =
+    let start = c .before .before .before .before .before .before .before .before .before .before .before .before .before .before in
+    omega (arith, vertical (start .args .join) (rulingAt (start .args .rects .now) (start .args .directions .now) (start .args .chosen .now)) (length (start .args .chosen .now)) (c .before .before .before .before .before .loop .k) (start .pre .0 .2) (c .before .before .before .before .loop-test .taken) .0, start .pre .0 .1 .few)
+
+slice-read-apart-2 : tie.Need-slice-read-apart-2 Inv-loop μ-loop
+slice-read-apart-2 c =
+    let start = c .before .before .before .before .before .before .before .before .before .before .before .before .before .before .before in
+    omega (arith, vertical (start .args .join) (rulingAt (start .args .rects .now) (start .args .directions .now) (start .args .chosen .now)) (length (start .args .chosen .now)) (c .before .before .before .before .before .before .loop .k) (start .pre .0 .2) (c .before .before .before .before .before .loop-test .taken) .0, c .before .before .before .before .before .before .loop .inv .seen .parents .room)
+
 join-if-requires : tie.Need-join-if-requires Inv-loop μ-loop
 join-if-requires c κs =
-    let start = c .before .before .before .before .before .before .before .before .before .before .before .before .before .before in
-    (c .before .before .before .before .before .loop .inv .seen .parents, start .pre .0 .3, vertical (start .args .join) (rulingAt (start .args .rects .now) (start .args .directions .now) (start .args .chosen .now)) (length (start .args .chosen .now)) (c .before .before .before .before .before .loop .k) (start .pre .0 .2) (c .before .before .before .before .loop-test .taken) .0)
+    let start = c .before .before .before .before .before .before .before .before .before .before .before .before .before .before .before .before in
+    (c .before .before .before .before .before .before .before .loop .inv .seen .parents, start .pre .0 .3, vertical (start .args .join) (rulingAt (start .args .rects .now) (start .args .directions .now) (start .args .chosen .now)) (length (start .args .chosen .now)) (c .before .before .before .before .before .before .before .loop .k) (start .pre .0 .2) (c .before .before .before .before .before .before .loop-test .taken) .0)
 
 add-k : tie.Need-add-k Inv-loop μ-loop
 add-k c =
-    let start = c .before .before .before .before .before .before .before .before .before .before .before .before .before .before .before .before .before in
-    omega (arith, c .before .before .before .before .before .before .before .loop-test .taken, few (start .args .join) (rulingAt (start .args .rects .now) (start .args .directions .now) (start .args .chosen .now)) (length (start .args .chosen .now)) (start .pre .0 .2), start .pre .0 .1 .few)
+    let start = c .before .before .before .before .before .before .before .before .before .before .before .before .before .before .before .before .before .before .before in
+    omega (arith, c .before .before .before .before .before .before .before .before .before .loop-test .taken, few (start .args .join) (rulingAt (start .args .rects .now) (start .args .directions .now) (start .args .chosen .now)) (length (start .args .chosen .now)) (start .pre .0 .2), start .pre .0 .1 .few)
 
 loop-less : tie.Need-loop-less Inv-loop μ-loop
-loop-less c = omega (arith, c .before .before .before .before .before .before .before .loop-test .taken)
+loop-less c = omega (arith, c .before .before .before .before .before .before .before .before .before .loop-test .taken)
 
 loop-again : tie.Need-loop-again Inv-loop μ-loop
 loop-again c =
-    let start = c .before .before .before .before .before .before .before .before .before .before .before .before .before .before .before .before .before in
-    turn (start .args .join) (rulingAt (start .args .rects .now) (start .args .directions .now) (start .args .chosen .now)) (length (start .args .chosen .now)) (c .before .before .before .before .before .before .before .before .loop .inv) (start .pre .0 .3) (start .pre .0 .2) (c .before .before .before .before .before .before .before .loop-test .taken) (c .before .before .before .before .before .vertical-at .ensures) (c .before .before .before .before .touches .ensures) (c .before .before .join-if .kept .0) (c .before .before .join-if .ensures)
+    let start = c .before .before .before .before .before .before .before .before .before .before .before .before .before .before .before .before .before .before .before in
+    turn (start .args .join) (rulingAt (start .args .rects .now) (start .args .directions .now) (start .args .chosen .now)) (length (start .args .chosen .now)) (c .before .before .before .before .before .before .before .before .before .before .loop .inv) (start .pre .0 .3) (start .pre .0 .2) (c .before .before .before .before .before .before .before .before .before .loop-test .taken) (c .before .before .before .before .before .before .before .vertical-at .ensures) (c .before .before .before .before .before .before .touches .ensures) (c .before .before .join-if .kept .0) (c .before .before .join-if .ensures)
 
 same-length : tie.Need-same-length Inv-loop μ-loop
 same-length c = c .before .loop .inv .long
@@ -149,6 +172,10 @@ join-row-spec =
     cast-j
     vertical-at-requires
     touches-requires
+    mul-apart
+    slice-read-apart
+    mul-apart-2
+    slice-read-apart-2
     join-if-requires
     add-k
     loop-less
