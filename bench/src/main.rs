@@ -5,12 +5,12 @@
 mod boxes;
 mod grouping;
 mod levelling;
+mod ruled_tables;
 mod rulings;
-mod stages;
 mod timing;
 
 use differential::{params, random, rust_layout, tables};
-use lanegravel_binding::{segments as ffi_segments, tables as ffi_tables};
+use lanegravel_binding::tables as ffi_tables;
 
 fn main() {
     let only = std::env::args().nth(1).unwrap_or_default();
@@ -20,7 +20,7 @@ fn main() {
         .into_iter()
         .chain(levelling::MEASUREMENTS)
         .chain(rulings::MEASUREMENTS)
-        .chain(stages::MEASUREMENTS)
+        .chain(ruled_tables::MEASUREMENTS)
         .chain(boxes::MEASUREMENTS);
     for (name, measure) in all {
         if name.contains(only.as_str()) {

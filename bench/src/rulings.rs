@@ -1,4 +1,4 @@
-//! Pieces to rulings: a page as a scanner gives it, and one where all pieces touch.
+//! Pieces to rulings: pages as a scanner gives them, and pages with as many pieces as there may be.
 
 use std::hint::black_box;
 
@@ -7,15 +7,27 @@ use pagetriage::pixel::rulings;
 
 use crate::params::{self, VALID};
 use crate::random::Random;
+use crate::ruled_tables::{form, strokes};
 use crate::rust_layout::with_rules;
 use crate::timing::{Times, compare};
 
-pub const MEASUREMENTS: [(&str, fn() -> Times); 2] = [
+pub const MEASUREMENTS: [(&str, fn() -> Times); 5] = [
     ("rulings, a page of 300 pieces, its rules drawn", || {
         join(drawn_page())
     }),
     ("rulings, 4,096 pieces, all touching", || {
-        join(page(4_096, 64, [10, 30, 40, 31].repeat(4_096)))
+        join(page(4_096, 64, 24.0, [10, 30, 40, 31].repeat(4_096)))
+    }),
+    ("rulings, a form of 240 pieces", || {
+        let pieces = form(4, 12, 6, 525).iter().flat_map(|r| r.rect).collect();
+        join(page(2_480, 3_508, 10.0, pieces))
+    }),
+    ("rulings, 4,096 pieces, none touching", || {
+        join(page(4_096, 4_096, 10.0, strokes()))
+    }),
+    ("rulings, 4,096 pieces in one chain", || {
+        let pieces = (0..4_096).flat_map(|i| [2 * i, 5, 2 * i, 5]).collect();
+        join(page(8_192, 16, 10.0, pieces))
     }),
 ];
 
@@ -23,7 +35,7 @@ pub const MEASUREMENTS: [(&str, fn() -> Times); 2] = [
 /// up to a pixel apart and are darker than the paper.
 fn drawn_page() -> Page {
     let random = &mut Random::new(1);
-    let mut page = page(2_480, 3_508, Vec::new());
+    let mut page = page(2_480, 3_508, 24.0, Vec::new());
     page.raster.fill_with(|| 215 + random.below(41) as u8);
     for top in (0..5).map(|table| 150 + 660 * table) {
         for y in (0..10).map(|row| top + 60 * row) {
@@ -57,12 +69,12 @@ fn draw(random: &mut Random, page: &mut Page, [x0, y0, x1, y1]: [u32; 4]) {
     page.pieces.extend([x0, y0, x1, y1]);
 }
 
-fn page(width: usize, height: usize, pieces: Vec<u32>) -> Page {
+fn page(width: usize, height: usize, xheight: f64, pieces: Vec<u32>) -> Page {
     let mut random = Random::new(1);
     Page {
         width,
         height,
-        xheight: 24.0,
+        xheight,
         raster: (0..width * height).map(|_| random.bits() as u8).collect(),
         pieces,
         params: VALID,

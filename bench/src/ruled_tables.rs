@@ -1,29 +1,16 @@
-//! Pieces to rulings, and rulings to tables: a ruled form, and pages with as many as there may be.
+//! Rulings to tables: ruled forms, and pages with as many rulings as there may be.
 
 use std::hint::black_box;
 
 use pagetriage::pixel::rulings;
 
-use crate::ffi_segments::{self, Lent, Page};
 use crate::ffi_tables;
 use crate::params::{self, VALID};
 use crate::random::Random;
-use crate::rust_layout::with_rules;
 use crate::tables::{lent, segments};
 use crate::timing::{Times, compare};
 
-pub const MEASUREMENTS: [(&str, fn() -> Times); 11] = [
-    ("rulings, a form of 240 pieces", form_pieces),
-    ("rulings, 4,096 pieces, none touching", || {
-        join(4_096, 4_096, strokes())
-    }),
-    ("rulings, 4,096 pieces in one chain", || {
-        join(
-            8_192,
-            16,
-            (0..4_096).flat_map(|i| [2 * i, 5, 2 * i, 5]).collect(),
-        )
-    }),
+pub const MEASUREMENTS: [(&str, fn() -> Times); 8] = [
     ("tables, a form of 72 rulings", || {
         table(&form(4, 12, 6, 2_104))
     }),
@@ -55,12 +42,13 @@ pub const MEASUREMENTS: [(&str, fn() -> Times); 11] = [
 ];
 
 /// A ruling as it is given: its rectangle, and 0 for across, 1 for down.
-struct Given {
-    rect: [u32; 4],
+pub struct Given {
+    pub rect: [u32; 4],
     direction: u32,
 }
 
-fn strokes() -> Vec<u32> {
+/// Strokes of 20 in 64 rows of 64, none near another.
+pub fn strokes() -> Vec<u32> {
     (0..64)
         .flat_map(|i| (0..64).flat_map(move |j| [60 * j, 60 * i, 60 * j + 20, 60 * i + 1]))
         .collect()
@@ -109,7 +97,7 @@ fn grid(past: u32) -> Vec<Given> {
 }
 
 /// Tables below each other on a page of 3,508 rows, each rule of them broken into pieces of `step`.
-fn form(tables: u32, across: u32, down: u32, step: u32) -> Vec<Given> {
+pub fn form(tables: u32, across: u32, down: u32, step: u32) -> Vec<Given> {
     let mut all = Vec::new();
     let height = 3_200 / tables * 3 / 4;
     for top in (0..tables).map(|k| 150 + 3_200 / tables * k) {
@@ -131,53 +119,6 @@ fn form(tables: u32, across: u32, down: u32, step: u32) -> Vec<Given> {
         }
     }
     all
-}
-
-fn form_pieces() -> Times {
-    let pieces = form(4, 12, 6, 525);
-    join(2_480, 3_508, pieces.iter().flat_map(|r| r.rect).collect())
-}
-
-fn join(width: usize, height: usize, pieces: Vec<u32>) -> Times {
-    let n = pieces.len() / 4;
-    let mut random = Random::new(1);
-    let page = Page {
-        width,
-        height,
-        xheight: 10.0,
-        raster: (0..width * height).map(|_| random.bits() as u8).collect(),
-        pieces,
-        params: VALID,
-    };
-    let layout = with_rules(width, height, page.xheight, &page.pieces);
-    let p = params::rust(&page.params);
-    let mut lists = Lent {
-        rects: vec![0; 4 * n],
-        directions: vec![0; n],
-        contrasts: vec![0.0; n],
-        members: vec![0; n],
-        ends: vec![0; n],
-        parents: vec![0; n],
-        listed: vec![0; n],
-        listed_ends: vec![0; n],
-        work: vec![0; n],
-        keys: vec![0; n],
-    };
-    let found = ffi_segments::segments(&page, &mut lists);
-    assert_eq!(found.number, 0);
-    assert_eq!(
-        found.count,
-        rulings::segments(&layout, &page.raster, &p).len()
-    );
-    compare(
-        11,
-        || {
-            black_box(ffi_segments::segments(black_box(&page), &mut lists));
-        },
-        || {
-            black_box(rulings::segments(black_box(&layout), &page.raster, &p));
-        },
-    )
 }
 
 fn table(all: &[Given]) -> Times {
