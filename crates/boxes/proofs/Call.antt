@@ -15,7 +15,7 @@ use Rattle.boxes.specs.declared.limits.Limits.{Limits}
 use Rattle.boxes.specs.Limits.{limitsOf}
 use Rattle.boxes.specs.Call.{roomFits, boxQuestions, pageBoxes, Boxes}
 use Rattle.boxes.specs.Steps.{Made}
-use Rattle.boxes.proofs.Listing.{every-box}
+use Rattle.boxes.proofs.EveryBox.{every-box}
 
 -- a refused call leaves what was there
 kept : {A : Type 0} {b : Bool} (x y : A) → b ≡ false → y ≡ cond b x y

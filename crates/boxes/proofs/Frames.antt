@@ -9,7 +9,7 @@ use lib.Ieee.{Float, binary64, mul}
 use borrow.Author.Tests.{lt-ltb, le-ltb, ltb-true}
 use Rattle.lists.proofs.Every.{and-first, and-second}
 use Rattle.math.specs.Sum.{whole}
-use Rattle.rects.specs.Rects.{widthOf, heightOf}
+use Rattle.rects.specs.Rects.{widthOf, heightOf, Inside}
 use Rattle.rects.specs.declared.Rect.{Rect}
 use Rattle.ink.specs.Ink.{Ink, inkAt, rowInk, columnInk, Readable}
 use Rattle.ink.specs.Places.{over, firstPlace, lastEnd}
@@ -81,12 +81,25 @@ module _ (ink : Ink) (fraction : Float) (r : Rect) where
       go true q h = (refl, cc)
       go false q h = absurd (let z : _≡_ {A = ℕ} 0 1 = cc in omega arith)
 
-  -- the frame can be read where the glyph box can
-  pub frame-readable : (mask : List ℕ) (w : ℕ) → Readable mask w r → hasFrame ink fraction r ≡ true → Readable mask w (frameOf ink fraction r)
+  -- ---- where the frame lies
+
+  -- in order, and it ends no later than its glyph box
+  frame-ends : r .x0 ≤ r .x1 → r .y0 ≤ r .y1 → hasFrame ink fraction r ≡ true
+      → let f = frameOf ink fraction r in (f .x0 ≤ f .x1) × (f .y0 ≤ f .y1) × (f .x1 ≤ r .x1) × (f .y1 ≤ r .y1)
   unfolding hasFrame frameOf
-  frame-readable mask w R h =
+  frame-ends wide high h =
       let s = ltb (topOf ink fraction r) (heightOf r) in
       let t = ltb (leftOf ink fraction r) (widthOf r) in
       let v = rows-ordered (ltb-true _ _ (and-first s t h)) in
       let u = columns-ordered (ltb-true _ _ (and-second s t h)) in
-      readable-inside mask w r (frameOf ink fraction r) R (omega (arith, u)) (omega (arith, v)) (omega (arith, u, R .wide)) (omega (arith, v, R .high))
+      (omega (arith, u), omega (arith, v), omega (arith, u), omega (arith, v))
+
+  -- it can be read where the glyph box can
+  pub frame-readable : (mask : List ℕ) (w : ℕ) → Readable mask w r → hasFrame ink fraction r ≡ true → Readable mask w (frameOf ink fraction r)
+  frame-readable mask w R h = let e = frame-ends (R .wide) (R .high) h in readable-inside mask w r (frameOf ink fraction r) R (e .0) (e .1) (e .2) (e .3)
+
+  -- and lies in a picture that the glyph box lies in
+  pub frame-inside : (w h : ℕ) → Inside w h r → hasFrame ink fraction r ≡ true → Inside w h (frameOf ink fraction r)
+  frame-inside w h I t =
+      let e = frame-ends (I .wide) (I .high) t in
+      record { wide = e .0; high = e .1; right = omega (arith, e .2, I .right); bottom = omega (arith, e .3, I .bottom) }

@@ -3,6 +3,7 @@ pub mod Frames
 pub mod Bands
 pub mod Halves
 pub mod Tests
+pub mod EveryBox
 pub mod Listing
 pub mod Accepted
 pub mod Call

@@ -1,65 +1,24 @@
--- The list of boxes, one glyph box after the other: nothing or one box more a turn, stored behind those that are there.
+-- The boxes, one glyph box after the other: nothing or one box more a turn, stored behind those that are there.
 use mathlib.Core.Path.{_≡_, refl, sym, ap, ap₂, subst, _∙_}
-use mathlib.Core.Bool.{Bool, true, false, cond, not}
-use mathlib.Core.List.{List, [], _∷_, _++_, map}
-use Prim.Native.Nat.{ℕ, zero, suc, _+_, _*_, _≤_, _<_, zero-le}
-use native.Mathlib.Numerals.{add-one}
+use mathlib.Core.List.{List, _++_, map}
+use Prim.Native.Nat.{ℕ, _+_, _*_, _≤_, _<_, zero-le}
 use native.Mathlib.Omega.{arith}
 use lib.Ieee.{Float}
 use lib.ListN.{length, set, length-append, length-map}
 use lib.Seq.{sets, length-sets}
-use borrow.Author.Tests.{not-true}
-use Rattle.lists.specs.Lists.{In, below, keep, concat, written}
-use Rattle.lists.proofs.Keep.{map-append, keep-append, concat-append, length-below, kept-in, in-kept, in-below, below-in}
-use Rattle.lists.proofs.Sizes.{keep-size-le}
+use Rattle.lists.specs.Lists.{concat, written}
+use Rattle.lists.proofs.Keep.{map-append, concat-append}
 use Rattle.lists.proofs.Written.{written-run}
 use Rattle.rects.specs.Rects.{count, rectAt, numbersOf}
 use Rattle.rects.specs.declared.Rect.{Rect}
-use Rattle.ink.specs.Ink.{Ink, inkAt}
+use Rattle.ink.specs.Ink.{inkAt}
 use Rattle.boxes.specs.declared.limits.Limits.{Limits}
 use Rattle.boxes.specs.declared.found.CheckBox.{CheckBox}
 use Rattle.boxes.specs.declared.found.Found.{Found}
 use Rattle.boxes.specs.declared.found.Found.the-variants.{PassedOver, Box}
-use Rattle.boxes.specs.Boxes.{passedOver, boxOf, chosen, boxesBelow, boxesOf, EveryBox, rectanglesOf, marksOf, coveragesOf}
+use Rattle.boxes.specs.Boxes.{boxesBelow, rectanglesOf, marksOf, coveragesOf}
 use Rattle.boxes.specs.Steps.{foundOf, listed, RoomAt, Stored, Ready, Made}
-
--- ---- one glyph box more
-
-module _ (ink : Ink) (l : Limits) (glyphs : List ℕ) where
-  abbrev box-at : ℕ → CheckBox
-  box-at k = boxOf ink l (rectAt glyphs k)
-
-  abbrev stays : ℕ → Bool
-  stays k = not (passedOver ink l (rectAt glyphs k))
-
-  pub boxes-next : (k : ℕ) → boxesBelow ink l glyphs (k + 1) ≡ boxesBelow ink l glyphs k ++ listed (foundOf ink l (rectAt glyphs k))
-  unfolding boxesBelow foundOf
-  boxes-next k =
-      rw (add-one k) (ap (map box-at) (keep-append stays (below k) (k ∷ [])) ∙ map-append box-at (keep stays (below k)) (keep stays (k ∷ []))
-      ∙ ap (λ (t : List CheckBox). map box-at (keep stays (below k)) ++ t) (go (passedOver ink l (rectAt glyphs k))))
-    where
-      go : (b : Bool) → map box-at (cond (not b) (k ∷ []) []) ≡ listed (cond b PassedOver (Box (box-at k)))
-      go true = refl
-      go false = refl
-
-  pub boxes-none : boxesBelow ink l glyphs 0 ≡ []
-  unfolding boxesBelow
-  boxes-none = refl
-
-  pub boxes-few : (k : ℕ) → length (boxesBelow ink l glyphs k) ≤ k
-  unfolding boxesBelow
-  boxes-few k = omega (arith, length-map (keep stays (below k)) box-at, keep-size-le stays (below k), length-below k)
-
-  -- every glyph box that is not passed over has its box, and no other has one
-  pub every-box : EveryBox ink l glyphs (chosen ink l glyphs (count glyphs)) (boxesOf ink l glyphs)
-  unfolding boxesBelow
-  every-box =
-      record {
-        boxes = refl;
-        no-other = λ k m. let t = kept-in stays (below (count glyphs)) k m in (below-in (count glyphs) k (t .0), not-true (passedOver ink l (rectAt glyphs k)) (t .1));
-        each = λ k h f. in-kept stays (below (count glyphs)) k (in-below (count glyphs) k h) (ap not f);
-        in-order = refl;
-      }
+use Rattle.boxes.proofs.EveryBox.{boxes-next, boxes-none, boxes-few, rectangles-long, boxes-inside}
 
 -- ---- what was found, stored
 
@@ -76,10 +35,6 @@ stored-one {found} {n} {rs} {ms} {rs′} {cs} b e r =
 listed-few : (f : Found) → length (listed f) ≤ 1
 listed-few PassedOver = zero-le
 listed-few (Box b) = omega arith
-
-rectangles-long : (bs : List CheckBox) → length (rectanglesOf bs) ≡ 4 * length bs
-rectangles-long [] = refl
-rectangles-long (b ∷ bs) = omega (arith, rectangles-long bs)
 
 rectangles-append : (xs ys : List CheckBox) → rectanglesOf (xs ++ ys) ≡ rectanglesOf xs ++ rectanglesOf ys
 rectangles-append xs ys =
@@ -158,12 +113,17 @@ module _ (mask : List ℕ) (w : ℕ) (glyphs : List ℕ) (l : Limits) where
               (omega (arith, few, length-map ys (λ b. b .«edge_coverage»), R .coverages)) (S .coverages) (ap coveragesOf next ∙ map-append (λ b. b .«edge_coverage») xs ys);
         }
 
-  pub done : {rs₀ ms₀ rs ms : List ℕ} {cs₀ cs : List Float} {n k : ℕ} → Finding rs₀ ms₀ cs₀ rs ms cs n k → count glyphs ≤ k → Made mask w glyphs l rs₀ ms₀ cs₀ rs ms cs n
-  done {rs₀} {ms₀} {rs} {ms} {cs₀} {cs} {n} {k} F h =
+  pub done : {rs₀ ms₀ rs ms : List ℕ} {cs₀ cs : List Float} {n k : ℕ} → Ready mask w glyphs l rs₀ ms₀ cs₀ → Finding rs₀ ms₀ cs₀ rs ms cs n k → count glyphs ≤ k
+      → Made mask w glyphs l rs₀ ms₀ cs₀ rs ms cs n
+  done {rs₀} {ms₀} {rs} {ms} {cs₀} {cs} {n} {k} R F h =
       let end : k ≡ count glyphs = omega (arith, F .up-to) in
       record {
         count = F .number ∙ ap (λ (j : ℕ). length (bs j)) end;
         rects = F .rects ∙ ap (λ (j : ℕ). written (rectanglesOf (bs j)) rs₀) end;
         marks = F .marks ∙ ap (λ (j : ℕ). written (marksOf (bs j)) ms₀) end;
         coverages = F .coverages ∙ ap (λ (j : ℕ). written (coveragesOf (bs j)) cs₀) end;
+        few = omega (arith, F .number, F .up-to, boxes-few (inkAt w mask) l glyphs k);
+        in-picture = λ h inside. boxes-inside (inkAt w mask) l w h glyphs inside;
+        below-8192 = boxes-inside (inkAt w mask) l 8192 8192 glyphs (λ j m.
+            let r = R .readable j m in record { wide = r .wide; high = r .high; right = omega (arith, r .right, r .narrow); bottom = r .low });
       }

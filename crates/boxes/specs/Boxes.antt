@@ -1,9 +1,10 @@
 -- The box of a glyph box, and the boxes of a page: those of every glyph box that is not passed over, in order, and no others.
 use mathlib.Core.Path.{_≡_}
 use mathlib.Core.Bool.{Bool, false, not, _||_}
-use mathlib.Core.List.{List, [], _∷_, map}
+use mathlib.Core.List.{List, map}
 use Prim.Native.Nat.{ℕ, _<_}
 use lib.Ieee.{Float, lt}
+use lib.ListN.{length, getD}
 use Rattle.lists.specs.Lists.{In, below, keep, concat}
 use Rattle.rects.specs.Rects.{widthOf, heightOf, rectAt, numbersOf, count}
 use Rattle.rects.specs.declared.Rect.{Rect}
@@ -49,12 +50,18 @@ boxesBelow ink l glyphs n = map (λ k. boxOf ink l (rectAt glyphs k)) (chosen in
 abbrev pub boxesOf : Ink → Limits → List ℕ → List CheckBox
 boxesOf ink l glyphs = boxesBelow ink l glyphs (count glyphs)
 
--- The places ks are those of the glyph boxes that are not passed over, all of them and no others, and bs are their boxes in that order.
+-- A list ascends: each entry is below those behind it.
+abbrev pub Ascends : List ℕ → Type 0
+Ascends ks = (j k : ℕ) → j < k → k < length ks → getD ks j 0 < getD ks k 0
+
+-- The places ks ascend and are those of the glyph boxes that are not passed over, all of them and no others; there are as many boxes bs as places, and
+-- box k is that of the glyph box at entry k of ks. (`past` stands for what lies past the end.)
 pub record EveryBox (ink : Ink) (l : Limits) (glyphs ks : List ℕ) (bs : List CheckBox) : Type 0 where
-  pub boxes : bs ≡ map (λ k. boxOf ink l (rectAt glyphs k)) ks
+  pub ascending : Ascends ks
   pub no-other : (k : ℕ) → In ks k → (k < count glyphs) × (passedOver ink l (rectAt glyphs k) ≡ false)
   pub each : (k : ℕ) → k < count glyphs → passedOver ink l (rectAt glyphs k) ≡ false → In ks k
-  pub in-order : ks ≡ keep (λ k. not (passedOver ink l (rectAt glyphs k))) (below (count glyphs))
+  pub as-many : length bs ≡ length ks
+  pub box : (k : ℕ) (past : CheckBox) → k < length ks → getD bs k past ≡ boxOf ink l (rectAt glyphs (getD ks k 0))
 
 -- What the lists of a page hold: four numbers a box, its mark, its edge coverage.
 abbrev pub rectanglesOf : List CheckBox → List ℕ

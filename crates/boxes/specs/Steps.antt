@@ -7,7 +7,7 @@ use lib.Ieee.{Float}
 use lib.ListN.{length}
 use lib.Seq.{sets}
 use Rattle.lists.specs.Lists.{written}
-use Rattle.rects.specs.Rects.{count, rectAt}
+use Rattle.rects.specs.Rects.{count, rectAt, AllInside}
 use Rattle.rects.specs.declared.Rect.{Rect}
 use Rattle.ink.specs.Ink.{Ink, inkAt, Readable}
 use Rattle.boxes.specs.declared.limits.Limits.{Limits}
@@ -57,9 +57,12 @@ pub record Ready (mask : List ℕ) (w : ℕ) (glyphs : List ℕ) (l : Limits) (r
   pub marks : count glyphs ≤ length ms
   pub coverages : count glyphs ≤ length cs
 
--- What the core leaves.
+-- What the core leaves: the boxes, no more of them than glyph boxes, each inside the picture that the glyph boxes are inside, and below 8,192.
 pub record Made (mask : List ℕ) (w : ℕ) (glyphs : List ℕ) (l : Limits) (rs ms : List ℕ) (cs : List Float) (rs′ ms′ : List ℕ) (cs′ : List Float) (n : ℕ) : Type 0 where
+  pub few : n ≤ count glyphs
   pub count : n ≡ length (boxesOf (inkAt w mask) l glyphs)
   pub rects : rs′ ≡ written (rectanglesOf (boxesOf (inkAt w mask) l glyphs)) rs
   pub marks : ms′ ≡ written (marksOf (boxesOf (inkAt w mask) l glyphs)) ms
   pub coverages : cs′ ≡ written (coveragesOf (boxesOf (inkAt w mask) l glyphs)) cs
+  pub in-picture : (h : ℕ) → AllInside w h glyphs → AllInside w h (rectanglesOf (boxesOf (inkAt w mask) l glyphs))
+  pub below-8192 : AllInside 8192 8192 (rectanglesOf (boxesOf (inkAt w mask) l glyphs))

@@ -11,14 +11,14 @@ use native.Mathlib.Omega.{arith}
 use lib.ListN.{length, getD, set, length-map}
 use lib.Seq.{getD-set-same, getD-set-other}
 use Rattle.lists.specs.Lists.{below}
-use Rattle.lists.proofs.Keep.{values-more, length-values, map-same, map-append, below-in}
+use Rattle.lists.proofs.Keep.{values-more, length-values, map-map, map-same, map-append, below-in}
 use Rattle.math.specs.Sum.{total}
 use Rattle.math.proofs.Sums.{EachLe, total-le}
 use Rattle.rects.specs.declared.Rect.{Rect}
 use Rattle.rects.specs.Rects.{widthOf, heightOf}
 use Rattle.contrast.specs.Pixels.{pixel, run, span, darkestOf, darkest}
 use Rattle.contrast.specs.Counting.{line, columnsDarkest, rowsDarkest, Darkened, RowsInside, placesAlong}
-use Rattle.contrast.proofs.Pixels.{map-map, values-same, row-inside, run-length}
+use Rattle.contrast.proofs.Pixels.{values-same, row-inside, run-length}
 
 -- ---- the darkest of some pixels
 

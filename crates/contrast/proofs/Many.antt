@@ -11,9 +11,9 @@ use lib.Dec.{eqb, leb}
 use lib.ListN.{length, getD, set, length-append}
 use lib.Seq.{getD-set-same, getD-set-other}
 use borrow.Author.Tests.{leb-true, leb-false, eqb-true, eqb-false, le-leb, lt-leb, eq-eqb, ne-eqb}
-use Rattle.lists.specs.Lists.{keep}
+use Rattle.lists.specs.Lists.{one, keep}
 use Rattle.lists.proofs.Keep.{keep-append}
-use Rattle.lists.proofs.Sizes.{one, keep-size, keep-size-split}
+use Rattle.lists.proofs.Sizes.{keep-size, keep-size-split}
 use Rattle.contrast.specs.Counting.{many, Counted, Tallied}
 
 pub many-append : (q : ℕ → Bool) (xs ys : List ℕ) → many q (xs ++ ys) ≡ many q xs + many q ys

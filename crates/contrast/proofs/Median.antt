@@ -8,7 +8,8 @@ use native.Mathlib.Omega.{arith}
 use lib.Dec.{leb, ltb}
 use lib.ListN.{length, getD}
 use borrow.Author.Tests.{leb-true, leb-false, ltb-true, ltb-false, le-leb}
-use Rattle.lists.proofs.Sizes.{one, keep-size, keep-size-le}
+use Rattle.lists.specs.Lists.{one}
+use Rattle.lists.proofs.Sizes.{keep-size, keep-size-le}
 use Rattle.contrast.specs.Counting.{many}
 use Rattle.contrast.specs.Median.{insert, sorted, median}
 use Rattle.contrast.proofs.Many.{at-least-zero}

@@ -8,15 +8,11 @@ use native.Mathlib.Omega.{arith}
 use lib.Dec.{eqb}
 use lib.ListN.{length, getD, length-append, length-map}
 use Rattle.lists.specs.Lists.{below, concat}
-use Rattle.lists.proofs.Keep.{map-append, map-same, concat-append, values-more, length-values}
+use Rattle.lists.proofs.Keep.{map-append, map-map, map-same, concat-append, values-more, length-values}
 use Rattle.lists.proofs.Sizes.{keep-size-le}
 use Rattle.contrast.specs.Pixels.{pixel, run, pixelsIn}
 use Rattle.contrast.specs.Counting.{many, line, RoomFor, Counted}
 use Rattle.contrast.proofs.Many.{many-append}
-
-pub map-map : {A : Type 0} (f : ℕ → A) (g : ℕ → ℕ) (xs : List ℕ) → map f (map g xs) ≡ map (λ x. f (g x)) xs
-map-map f g [] = refl
-map-map f g (x ∷ xs) = ap (λ t. f (g x) ∷ t) (map-map f g xs)
 
 -- values of two functions that agree
 pub values-same : {A : Type 0} (f g : ℕ → A) (n : ℕ) → ((k : ℕ) → f k ≡ g k) → map f (below n) ≡ map g (below n)

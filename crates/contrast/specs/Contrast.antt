@@ -27,7 +27,13 @@ medianLessMean paper dark = sub binary64 (whole (median paper)) (div binary64 (p
 unfoldable pub contrastOf : List ℕ → ℕ → ℕ → Rect → Bool → Float
 contrastOf raster w h r horizontal = medianLessMean (samples raster w h r horizontal) (darkest raster w r horizontal)
 
+-- x is within 2^-45 of the exact fraction, median minus sum over count, said over whole numbers: (median × count − sum) / count.
+abbrev pub NearContrast : List ℕ → ℕ → ℕ → Rect → Bool → Float → Type 0
+NearContrast raster w h r horizontal x =
+    let dark = darkest raster w r horizontal in
+    Within 45 x (median (samples raster w h r horizontal) * length dark) (total dark) (length dark)
+
 -- What is promised of a ruling's contrast x.
 pub record Contrasted (raster : List ℕ) (w h : ℕ) (r : Rect) (horizontal : Bool) (x : Float) : Type 0 where
   pub value : x ≡ contrastOf raster w h r horizontal
-  pub near : Within 45 x (median (samples raster w h r horizontal) * length (darkest raster w r horizontal)) (total (darkest raster w r horizontal)) (length (darkest raster w r horizontal))
+  pub near : NearContrast raster w h r horizontal x

@@ -1,7 +1,7 @@
 // Where the samples of the paper lie: two areas, on either side of the ruling, 3 to 6 pixels away.
 ghost use mathlib.Core.Path.{_≡_};
 ghost use Prim.Native.Nat.{_+_, _-_, _≤_, _<_, min};
-ghost use Rattle.rects.proofs.Questions.{Inside};
+ghost use Rattle.rects.specs.Rects.{Inside};
 ghost use Rattle.contrast.specs.Counting.{Beside, Sampled};
 use rects::Rect;
 

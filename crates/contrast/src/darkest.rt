@@ -3,7 +3,7 @@ ghost use mathlib.Core.Path.{_≡_};
 ghost use Prim.Native.Nat.{_+_, _≤_};
 ghost use lib.ListN.{length};
 ghost use Rattle.math.specs.Sum.{total};
-ghost use Rattle.rects.proofs.Questions.{Inside};
+ghost use Rattle.rects.specs.Rects.{Inside};
 ghost use Rattle.contrast.specs.Contrast.{OnPicture};
 ghost use Rattle.contrast.specs.Pixels.{darkest, darkestOf};
 ghost use Rattle.contrast.specs.Counting.{line, rowsDarkest, RowsInside, placesAlong};

@@ -8,7 +8,7 @@ use lib.Ieee.{Float}
 use borrow.Author.Tests.{leb-true, eq-eqb, ne-eqb}
 use Rattle.lists.proofs.Every.{and-first, and-second}
 use Rattle.questions.specs.Questions.{firstMissed}
-use Rattle.questions.proofs.FirstMissed.{in-two-parts, all-yes, none-missed}
+use Rattle.questions.proofs.FirstMissed.{in-two-parts, all-yes, none-missed, yes-parts}
 use Rattle.params.specs.declared.settings.RulingsParams.{RulingsParams}
 use Rattle.params.specs.Scan.{xheightQuestions}
 use Rattle.params.specs.Settings.{settingsQuestions}
@@ -95,6 +95,6 @@ passed xheight p rects l h =
     let y = all-yes (gridQuestions xheight p rects (hasRoom (count rects) l)) tt h in
     record {
       given = record { inside = all-inside-says 8192 8192 rects (y .1 .1 .0); few = count-says 16384 rects (y .1 .0) .1 };
-      settled = record { settings = none-missed (settingsQuestions p) (y .1 .1 .1 .0, (y .1 .1 .1 .1 .0, (y .1 .1 .1 .1 .1 .0, (y .1 .1 .1 .1 .1 .1 .0, (y .1 .1 .1 .1 .1 .1 .1 .0, (y .1 .1 .1 .1 .1 .1 .1 .1 .0, tt)))))); xheight-passed = none-missed (xheightQuestions xheight) (y .0, tt) };
+      settled = record { settings = none-missed (settingsQuestions p) (yes-parts (settingsQuestions p) ((14, hasRoom (count rects) l) ∷ []) (y .1 .1 .1) .0); xheight-passed = none-missed (xheightQuestions xheight) (y .0, tt) };
       roomy = room-says (count rects) l (y .1 .1 .1 .1 .1 .1 .1 .1 .1 .0);
     }

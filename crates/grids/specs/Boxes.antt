@@ -4,13 +4,10 @@ use mathlib.Core.Bool.{Bool, true, _&&_, _||_}
 use mathlib.Core.List.{List}
 use Prim.Native.Nat.{ℕ, _+_, _-_, min, max}
 use lib.Dec.{leb}
-use lib.IntN.{natAbs}
-use lib.Ieee.{Float, binary64, mul, sub, le}
-use Rattle.math.specs.Constants.{threeTenths, two}
-use Rattle.math.specs.Rounding.{roundedProduct}
+use lib.Ieee.{binary64, mul, sub, le}
+use Rattle.math.specs.Constants.{threeTenths}
 use Rattle.math.specs.Select.{absolute, maximumNumber}
 use Rattle.math.specs.Sum.{whole}
-use Rattle.params.specs.declared.settings.RulingsParams.{RulingsParams}
 use Rattle.rects.specs.declared.Rect.{Rect}
 use Rattle.rects.specs.Rects.{widthOf, rectAt}
 
@@ -46,7 +43,3 @@ touch rects limit i j = touching limit (rectAt rects i) (rectAt rects j)
 -- The rule that `touch` decides.
 abbrev pub Touch : List ℕ → ℕ → ℕ → ℕ → Type 0
 Touch rects limit i j = touch rects limit i j ≡ true
-
--- The limit: round(2 × grid_align_xh × x-height), products left to right; not below 0 on accepted input (`Grids`' field `limit`).
-abbrev pub alignLimit : RulingsParams → Float → ℕ
-alignLimit p xheight = natAbs (roundedProduct (mul binary64 two (p .«grid_align_xh»)) xheight)

@@ -4,18 +4,16 @@ use mathlib.Core.Bool.{Bool, true, cond}
 use mathlib.Core.List.{List, [], map}
 use Prim.Native.Nat.{ℕ, _<_}
 use lib.Dec.{eqb}
-use lib.Ieee.{Float, binary64, mul}
-use lib.IntN.{pos}
+use lib.Ieee.{Float}
 use lib.ListN.{length, getD}
 use Rattle.lists.specs.Lists.{concat, written}
-use Rattle.math.specs.Constants.{two}
-use Rattle.math.specs.Rounding.{roundedProduct}
 use Rattle.sets.specs.Closed.{Below, Listed, ListedWhere}
-use Rattle.sets.specs.Listing.{endsFrom}
+use Rattle.sets.specs.Listing.{endsFrom, ReadAs}
 use Rattle.questions.specs.Questions.{firstMissed}
 use Rattle.params.specs.declared.settings.RulingsParams.{RulingsParams}
+use Rattle.params.specs.Limits.{IsLimit, alignSetting, alignLimit}
 use Rattle.rects.specs.Rects.{count, allInside}
-use Rattle.grids.specs.Boxes.{Touch, alignLimit}
+use Rattle.grids.specs.Boxes.{Touch}
 use Rattle.grids.specs.Reading.{InReadingOrder, readingOrder}
 use Rattle.grids.specs.Grids.{boxSets, isGrid, grids, readings}
 use Rattle.grids.specs.Questions.{roomForBoxes, gridQuestions}
@@ -57,10 +55,9 @@ answered q xs lent = cond (eqb q 0) (written xs lent) lent
 abbrev pub setsOf : Float → RulingsParams → List ℕ → List (List ℕ)
 setsOf xheight p rects = boxSets rects (alignLimit p xheight)
 
--- What `box_grids` leaves, as q is the number of the first missed question: an accepted page's answers, and demand 3; a refused page leaves
--- every list.
-pub record Grids (xheight : Float) (p : RulingsParams) (rects : List ℕ) (q : ℕ) (l l′ : Lent) (number ss gs : ℕ) : Type 0 where
-  pub missed : number ≡ q
+-- What `box_grids` leaves: the number of the first missed question; an accepted page's answers; a refused page leaves every list; and demand 3.
+pub record Grids (xheight : Float) (p : RulingsParams) (rects : List ℕ) (l l′ : Lent) (q ss gs : ℕ) : Type 0 where
+  pub number : q ≡ missedBy xheight p rects l
   pub set-count : ss ≡ cond (eqb q 0) (length (setsOf xheight p rects)) 0
   pub grid-count : gs ≡ cond (eqb q 0) (length (grids (p .«grid_min_boxes») (setsOf xheight p rects))) 0
   pub members : l′ .members ≡ answered q (concat (setsOf xheight p rects)) (l .members)
@@ -72,5 +69,8 @@ pub record Grids (xheight : Float) (p : RulingsParams) (rects : List ℕ) (q : �
   pub work-kept : (q ≡ 0 → ⊥) → l′ .work ≡ l .work
   pub keys-kept : (q ≡ 0 → ⊥) → l′ .keys ≡ l .keys
   -- the limit is the rounded product, not below 0
-  pub limit : q ≡ 0 → roundedProduct (mul binary64 two (p .«grid_align_xh»)) xheight ≡ pos (alignLimit p xheight)
+  pub limit : q ≡ 0 → IsLimit (alignSetting p) xheight
+  -- the lists give each set back, and in the same places its reading order
+  pub read : q ≡ 0 → ReadAs (setsOf xheight p rects) (l′ .members) (l′ .ends) ss
+  pub read-order : q ≡ 0 → ReadAs (map (readingOrder rects) (setsOf xheight p rects)) (l′ .reading) (l′ .ends) ss
   pub demand3 : Demand3 rects (alignLimit p xheight) (p .«grid_min_boxes»)

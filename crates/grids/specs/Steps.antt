@@ -7,10 +7,11 @@ use lib.Dec.{eqb}
 use lib.Ieee.{Float}
 use lib.ListN.{length, getD}
 use Rattle.lists.specs.Lists.{In, below, concat, written}
-use Rattle.sets.specs.Listing.{endsFrom}
+use Rattle.sets.specs.Listing.{endsFrom, ReadAs}
 use Rattle.questions.specs.Questions.{firstMissed}
 use Rattle.params.specs.declared.settings.RulingsParams.{RulingsParams}
 use Rattle.rects.specs.Rects.{count, rectAt, Inside}
+use Rattle.grids.specs.Reading.{readingOrder}
 use Rattle.grids.specs.Grids.{boxSets, gridNumbers, grids, readings}
 use Rattle.grids.specs.Call.{Lent}
 
@@ -65,7 +66,7 @@ pub record Roomy (n : ℕ) (l : Lent) : Type 0 where
   pub work : n ≤ length (l .work)
   pub keys : n ≤ length (l .keys)
 
--- What the core leaves of the answers, and their counts.
+-- What the core leaves of the answers, and their counts; the lists give each set and its reading order back.
 pub record Filled (rects : List ℕ) (limit least : ℕ) (l l′ : Lent) (ss gs : ℕ) : Type 0 where
   pub set-count : ss ≡ length (boxSets rects limit)
   pub grid-count : gs ≡ length (grids least (boxSets rects limit))
@@ -73,3 +74,5 @@ pub record Filled (rects : List ℕ) (limit least : ℕ) (l l′ : Lent) (ss gs 
   pub ends : l′ .ends ≡ written (endsFrom 0 (boxSets rects limit)) (l .ends)
   pub reading : l′ .reading ≡ written (readings rects (boxSets rects limit)) (l .reading)
   pub numbers : l′ .numbers ≡ written (grids least (boxSets rects limit)) (l .numbers)
+  pub read : ReadAs (boxSets rects limit) (l′ .members) (l′ .ends) ss
+  pub read-order : ReadAs (map (readingOrder rects) (boxSets rects limit)) (l′ .reading) (l′ .ends) ss

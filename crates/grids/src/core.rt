@@ -2,8 +2,8 @@
 ghost use mathlib.Core.Path.{_≡_};
 ghost use Prim.Native.Nat.{_<_, _^_};
 ghost use Rattle.rects.specs.Rects.{count};
+ghost use Rattle.params.specs.Limits.{alignLimit};
 ghost use Rattle.params.specs.Settled.{Settled};
-ghost use Rattle.grids.specs.Boxes.{alignLimit};
 ghost use Rattle.grids.specs.Steps.{Given, Roomy, Filled};
 use crate::reading;
 use crate::touch;
@@ -14,7 +14,7 @@ pub fn limit(p: RulingsParams, xheight: f64) -> u64
     requires { ⌜ Settled p xheight ⌝ }
     ensures { λ r. ⌜ r ≡ alignLimit p xheight ⌝ }
 {
-    math::rounding::rounded_product(2.0 * p.grid_align_xh, xheight) as u64
+    params::pixels::limit(2.0 * p.grid_align_xh, xheight)
 }
 
 // How many sets and grids there are.

@@ -4,7 +4,7 @@ mod guard;
 mod reading;
 mod touch;
 
-ghost use Rattle.grids.specs.Call.{Grids, missedBy};
+ghost use Rattle.grids.specs.Call.{Grids};
 use params::settings::RulingsParams;
 
 // The number of the first missed question, 0 where none is, and how many sets and grids there are.
@@ -29,7 +29,6 @@ pub fn box_grids(
     keys: &mut [u64],
 ) -> Answer
     ensures { λ r. ⌜ Grids xheight p (now (rects .entry))
-        (missedBy xheight p (now (rects .entry)) (record { members = now (members .entry); ends = now (ends .entry); reading = now (reading .entry); numbers = now (numbers .entry); parents = now (parents .entry); work = now (work .entry); keys = now (keys .entry) }))
         (record { members = now (members .entry); ends = now (ends .entry); reading = now (reading .entry); numbers = now (numbers .entry); parents = now (parents .entry); work = now (work .entry); keys = now (keys .entry) })
         (record { members = now (members .exit); ends = now (ends .exit); reading = now (reading .exit); numbers = now (numbers .exit); parents = now (parents .exit); work = now (work .exit); keys = now (keys .exit) })
         (r .number) (r .sets) (r .grids) ⌝ }

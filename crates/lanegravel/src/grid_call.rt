@@ -1,5 +1,5 @@
 // Grids of boxes and the reading order of each set (crate `grids`).
-ghost use Rattle.grids.specs.Call.{Grids, missedBy};
+ghost use Rattle.grids.specs.Call.{Grids};
 
 #[no_mangle]
 pub extern "C" fn lanegravel_box_grids(
@@ -15,7 +15,6 @@ pub extern "C" fn lanegravel_box_grids(
     keys: &mut [u64],
 ) -> grids::Answer
     ensures { λ r. ⌜ Grids xheight p (now (rects .entry))
-        (missedBy xheight p (now (rects .entry)) (record { members = now (members .entry); ends = now (ends .entry); reading = now (reading .entry); numbers = now (numbers .entry); parents = now (parents .entry); work = now (work .entry); keys = now (keys .entry) }))
         (record { members = now (members .entry); ends = now (ends .entry); reading = now (reading .entry); numbers = now (numbers .entry); parents = now (parents .entry); work = now (work .entry); keys = now (keys .entry) })
         (record { members = now (members .exit); ends = now (ends .exit); reading = now (reading .exit); numbers = now (numbers .exit); parents = now (parents .exit); work = now (work .exit); keys = now (keys .exit) })
         (r .number) (r .sets) (r .grids) ⌝ }

@@ -1,5 +1,5 @@
 // Tables and free rulings (crate `tables`).
-ghost use Rattle.tables.specs.Call.{Tables, missedBy};
+ghost use Rattle.tables.specs.Call.{Tables};
 
 #[no_mangle]
 pub extern "C" fn lanegravel_tables(
@@ -22,9 +22,40 @@ pub extern "C" fn lanegravel_tables(
     keys: &mut [u64],
 ) -> tables::Answer
     ensures { λ r. ⌜ Tables xheight p (now (rects .entry)) (now (directions .entry))
-        (missedBy xheight p (now (rects .entry)) (now (directions .entry)) (record { members = now (members .entry); ends = now (ends .entry); numbers = now (numbers .entry); bounds = now (bounds .entry); rows = now (rows .entry); columns = now (columns .entry); rulings = now (rulings .entry); shares = now (shares .entry); free = now (free .entry); chosen = now (chosen .entry); parents = now (parents .entry); work = now (work .entry); keys = now (keys .entry) }))
-        (record { members = now (members .entry); ends = now (ends .entry); numbers = now (numbers .entry); bounds = now (bounds .entry); rows = now (rows .entry); columns = now (columns .entry); rulings = now (rulings .entry); shares = now (shares .entry); free = now (free .entry); chosen = now (chosen .entry); parents = now (parents .entry); work = now (work .entry); keys = now (keys .entry) })
-        (record { members = now (members .exit); ends = now (ends .exit); numbers = now (numbers .exit); bounds = now (bounds .exit); rows = now (rows .exit); columns = now (columns .exit); rulings = now (rulings .exit); shares = now (shares .exit); free = now (free .exit); chosen = now (chosen .exit); parents = now (parents .exit); work = now (work .exit); keys = now (keys .exit) })
+        (record {
+          lists = record {
+            members = now (members .entry);
+            ends = now (ends .entry);
+            numbers = now (numbers .entry);
+            bounds = now (bounds .entry);
+            rows = now (rows .entry);
+            columns = now (columns .entry);
+            rulings = now (rulings .entry);
+            shares = now (shares .entry);
+            free = now (free .entry);
+            parents = now (parents .entry);
+            work = now (work .entry);
+            keys = now (keys .entry);
+          };
+          chosen = now (chosen .entry);
+        })
+        (record {
+          lists = record {
+            members = now (members .exit);
+            ends = now (ends .exit);
+            numbers = now (numbers .exit);
+            bounds = now (bounds .exit);
+            rows = now (rows .exit);
+            columns = now (columns .exit);
+            rulings = now (rulings .exit);
+            shares = now (shares .exit);
+            free = now (free .exit);
+            parents = now (parents .exit);
+            work = now (work .exit);
+            keys = now (keys .exit);
+          };
+          chosen = now (chosen .exit);
+        })
         (r .number) (r .sets) (r .tables) (r .free) ⌝ }
 {
     tables::tables(

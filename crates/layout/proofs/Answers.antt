@@ -11,7 +11,7 @@ use lib.ListN.{length, getD}
 use lib.Signed.{nonNeg}
 use borrow.Author.Tests.{leb-true, ltb-true, eqb-true, le-leb, lt-ltb, eq-eqb}
 use Rattle.layout.specs.declared.sides.Sides.{Sides}
-use Rattle.layout.specs.Sides.{sideFits, sidesFit, rasterFits}
+use Rattle.layout.specs.Sides.{sideFits, levelledSidesFit, sidesFit, rasterFits}
 use Rattle.layout.specs.Tables.{entry, entryFits, entriesFit, tablesLong, tablesFit, Table, Sheared}
 use Rattle.layout.proofs.Every.{and-true, and-parts, every-at, every-of}
 use Rattle.layout.proofs.Entries.{whole-not-below}
@@ -30,6 +30,10 @@ pub record SidesAre (s : Sides) : Type 0 where
 
 side-yes : (n : ℕ) → sideFits n ≡ true → (1 ≤ n) × (n ≤ 8192)
 side-yes n h = let p = and-parts (leb 1 n) (leb n 8192) h in (leb-true 1 n (p .0), leb-true n 8192 (p .1))
+
+-- question 1 where a call is given the levelled sides alone
+pub sides-say : (w h : ℕ) → levelledSidesFit w h ≡ true → (w ≤ 8192) × (h ≤ 8192)
+sides-say w h t = let p = and-parts (sideFits w) (sideFits h) t in (side-yes w (p .0) .1, side-yes h (p .1) .1)
 
 side-of : (n : ℕ) → 1 ≤ n → n ≤ 8192 → sideFits n ≡ true
 side-of n p q = and-true (le-leb 1 n p) (le-leb n 8192 q)

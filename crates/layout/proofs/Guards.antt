@@ -1,6 +1,6 @@
 -- What a guard's number gives: the core's facts where it is 0, and the refusal where it is not.
 -- Assumes nothing.
-use mathlib.Core.Path.{_≡_, sym, ap, _∙_}
+use mathlib.Core.Path.{_≡_, sym, ap, subst, _∙_}
 use mathlib.Core.Bool.{Bool, cond}
 use mathlib.Core.List.{List}
 use Prim.Native.Nat.{ℕ}
@@ -14,11 +14,12 @@ use Rattle.layout.specs.declared.sides.Sides.{Sides}
 use Rattle.rects.specs.declared.Rect.{Rect}
 use Rattle.layout.specs.Sides.{rasterFits}
 use Rattle.layout.specs.Tables.{Sheared, tablesLong}
-use Rattle.layout.specs.Level.{levelled}
+use Rattle.layout.specs.Level.{levelled, Levelling}
 use Rattle.layout.specs.Steps.{Ready}
 use Rattle.layout.specs.Calls.{levelQuestions, mapQuestions, LevelGray}
 use Rattle.layout.proofs.Every.{and-parts}
 use Rattle.layout.proofs.Answers.{SidesAre, sides-yes, sheared-yes, raster-yes}
+use Rattle.layout.proofs.Levelling.{levelled-is}
 use Rattle.rects.proofs.Questions.{Inside, inside-says}
 
 -- a number that is not 0 chooses what was there
@@ -37,10 +38,15 @@ module _ (sides : Sides) (shear shear-x : List ℤ) where
       }
 
   pub level-refused : (gray out : List ℕ) (q : ℕ) → q ≡ firstMissed (levelQuestions sides gray shear shear-x (length out)) → (q ≡ 0 → ⊥) → LevelGray sides gray shear shear-x out out q
-  level-refused gray out q e h = record { is-number = e; raster = kept-if-refused q (levelled sides gray shear shear-x) out h }
+  level-refused gray out q e h = record { is-number = e; raster = kept-if-refused q (levelled sides gray shear shear-x) out h; levelling = λ z. absurd (h z) }
 
   pub level-accepted : (gray out out′ : List ℕ) (q : ℕ) → q ≡ firstMissed (levelQuestions sides gray shear shear-x (length out)) → q ≡ 0 → out′ ≡ levelled sides gray shear shear-x → LevelGray sides gray shear shear-x out out′ q
-  level-accepted gray out out′ q e z h = record { is-number = e; raster = h ∙ ap (λ (n : ℕ). cond (eqb n 0) (levelled sides gray shear shear-x) out) (sym z) }
+  level-accepted gray out out′ q e z h =
+      record {
+        is-number = e;
+        raster = h ∙ ap (λ (n : ℕ). cond (eqb n 0) (levelled sides gray shear shear-x) out) (sym z);
+        levelling = λ _. subst (Levelling sides gray shear shear-x) (sym h) (levelled-is sides shear shear-x (ready-yes gray out (sym e ∙ z) .sheared) gray);
+      }
 
   pub mapped-yes : (r : Rect) → firstMissed (mapQuestions sides shear shear-x r) ≡ 0 → SidesAre sides × (Sheared sides shear shear-x × Inside (sides .w) (sides .h) r)
   mapped-yes r h =

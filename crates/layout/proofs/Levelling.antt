@@ -1,7 +1,8 @@
 -- Levelling is what document 01 says: a place that a page pixel reaches holds that pixel, and no two pixels reach one place; every other holds 255; and `to_page` leads back.
+-- Every place is reached or not, so the sentence says what each place holds, and no other raster meets it.
 -- Assumes nothing.
-use mathlib.Core.Path.{_≡_, sym, ap, _∙_}
-use mathlib.Core.Logic.{inl, inr, ⊎-elim}
+use mathlib.Core.Path.{_≡_, refl, sym, ap, ap₂, _∙_}
+use mathlib.Core.Logic.{_⊎_, inl, inr, ⊎-elim}
 use mathlib.Core.Bool.{Bool, cond}
 use mathlib.Core.List.{List}
 use Prim.Native.Nat.{ℕ, suc, _+_, _-_, _*_, _≤_, _<_}
@@ -12,9 +13,9 @@ use borrow.Author.Tests.{le-ltb}
 use Rattle.layout.specs.declared.sides.Sides.{Sides}
 use Rattle.layout.specs.declared.page.PagePlace.{PagePlace}
 use Rattle.layout.specs.Tables.{entry, Sheared}
-use Rattle.layout.specs.Level.{levelRow, levelColumn, columnShows, placeShows, levelled, Levelling}
+use Rattle.layout.specs.Level.{levelRow, levelColumn, placeShows, levelled, Levelling}
 use Rattle.layout.specs.ToPage.{nearest, toPage}
-use Rattle.layout.proofs.Places.{le-or-lt, raster-length, raster-at}
+use Rattle.layout.proofs.Places.{le-or-lt, raster-length, raster-at, raster-is}
 use Rattle.layout.proofs.Shows.{column-on, column-off, place-on, place-beside}
 use Rattle.layout.proofs.Back.{place-is}
 
@@ -39,6 +40,64 @@ to-page-back sides shear shear-x X Y p =
     ap (λ (k : ℕ). subℕ (levelRow shear X Y) (entry shear k)) (ap (nearest (sides .pw)) column ∙ on-page) ∙ back-by Y (entry shear X) in
     place-is sides shear shear-x (record { 0 = levelColumn shear shear-x X Y; 1 = levelRow shear X Y }) (pos X) (pos Y) (sym column) (sym row)
 
+-- ---- the places that a page pixel reaches, and the others
+
+module _ (sides : Sides) (shear shear-x : List ℤ) (x y : ℕ) where
+  -- the page pixel that reaches a place
+  record Reached : Type 0 where
+    X : ℕ
+    Y : ℕ
+    in-columns : X < sides .pw
+    in-rows : Y < sides .ph
+    column : levelColumn shear shear-x X Y ≡ x
+    row : levelRow shear X Y ≡ y
+
+  -- no page pixel reaches it
+  abbrev Unreached : Type 0
+  Unreached = (X Y : ℕ) → X < sides .pw → Y < sides .ph → levelColumn shear shear-x X Y ≡ x → levelRow shear X Y ≡ y → ⊥
+
+  -- what reaches a place comes from the one page column that its row's shift puts there
+  from-column : (X Y : ℕ) → levelColumn shear shear-x X Y ≡ x → levelRow shear X Y ≡ y → X + entry shear-x y ≡ x
+  from-column X Y column row = omega (arith, ap (entry shear-x) row)
+
+  module _ (gray : List ℕ) where
+    abbrev White : Type 0
+    White = Unreached × (placeShows sides gray shear shear-x x y ≡ 255)
+
+    -- a place in a page column: the page row that stands there, or none
+    in-column : (X : ℕ) → x ≡ entry shear-x y + X → X < sides .pw → Reached ⊎ White
+    in-column X on p =
+        let s = entry shear X in
+        let down : (X′ Y : ℕ) → levelColumn shear shear-x X′ Y ≡ x → levelRow shear X′ Y ≡ y → Y + s ≡ y =
+        λ X′ Y column row. let same : X′ ≡ X = omega (arith, from-column X′ Y column row) in omega (arith, ap (entry shear) same) in
+        let off : (y < s) ⊎ ((s ≤ y) × (sides .ph ≤ y - s)) → placeShows sides gray shear shear-x x y ≡ 255 =
+        λ o. place-on sides gray shear shear-x x y X on p ∙ column-off sides gray X y s o in
+        ⊎-elim
+        (λ (m : s ≤ y).
+        ⊎-elim
+        (λ (g : sides .ph ≤ y - s). inr ((λ X′ Y p′ q column row. omega (arith, down X′ Y column row)), off (inr (m, g))))
+        (λ (g : y - s < sides .ph).
+        let row : levelRow shear X (y - s) ≡ y = omega arith in
+        inl (record { X = X; Y = y - s; in-columns = p; in-rows = g; column = omega (arith, ap (entry shear-x) row); row = row }))
+        (le-or-lt (sides .ph) (y - s)))
+        (λ (m : y < s). inr ((λ X′ Y p′ q column row. omega (arith, down X′ Y column row)), off (inl m)))
+        (le-or-lt s y)
+
+    -- every place is reached by a page pixel, or by none, and then it shows white
+    reached-or-white : Reached ⊎ White
+    reached-or-white =
+        let s = entry shear-x y in
+        ⊎-elim
+        (λ (m : s ≤ x).
+        ⊎-elim
+        (λ (g : s + sides .pw ≤ x). inr ((λ X Y p q column row. omega (arith, from-column X Y column row)), place-beside sides gray shear shear-x x y (inr g)))
+        (λ (g : x < s + sides .pw). in-column (x - s) (omega arith) (omega arith))
+        (le-or-lt (s + sides .pw) x))
+        (λ (m : x < s). inr ((λ X Y p q column row. omega (arith, from-column X Y column row)), place-beside sides gray shear shear-x x y (inl m)))
+        (le-or-lt s x)
+
+-- ---- the levelled raster is a levelling, and there is no other
+
 module _ (sides : Sides) (shear shear-x : List ℤ) (sheared : Sheared sides shear shear-x) where
   -- every page pixel reaches a place of the picture
   pub reach-within : (X Y : ℕ) → X < sides .pw → Y < sides .ph → (levelColumn shear shear-x X Y < sides .w) × (levelRow shear X Y < sides .h)
@@ -58,35 +117,31 @@ module _ (sides : Sides) (shear shear-x : List ℤ) (sheared : Sheared sides she
         ∙ column-on sides gray X R (entry shear X) (omega arith) (omega arith)
         ∙ ap (λ (k : ℕ). getD gray (k * sides .pw + X) 0) back
 
-    -- in a column of the page, a place that no pixel reaches
-    white-column : (x y X : ℕ) → x ≡ entry shear-x y + X → X < sides .pw → ((X Y : ℕ) → X < sides .pw → Y < sides .ph → levelColumn shear shear-x X Y ≡ x → levelRow shear X Y ≡ y → ⊥) → columnShows sides gray (entry shear X) X y ≡ 255
-    white-column x y X e p none =
-        let s = entry shear X in
-        ⊎-elim
-        (λ (m : s ≤ y).
-        ⊎-elim
-        (λ (g : sides .ph ≤ y - s). column-off sides gray X y s (inr (m, g)))
-        (λ (g : y - s < sides .ph).
-        let row : levelRow shear X (y - s) ≡ y = omega arith in
-        absurd (none X (y - s) p g (omega (arith, ap (entry shear-x) row)) row))
-        (le-or-lt (sides .ph) (y - s)))
-        (λ (m : y < s). column-off sides gray X y s (inl m))
-        (le-or-lt s y)
-
-    white : (x y : ℕ) → x < sides .w → y < sides .h → ((X Y : ℕ) → X < sides .pw → Y < sides .ph → levelColumn shear shear-x X Y ≡ x → levelRow shear X Y ≡ y → ⊥) → getD (levelled sides gray shear shear-x) (y * sides .w + x) 0 ≡ 255
+    white : (x y : ℕ) → x < sides .w → y < sides .h → Unreached sides shear shear-x x y → getD (levelled sides gray shear shear-x) (y * sides .w + x) 0 ≡ 255
     white x y p q none =
-        let s = entry shear-x y in
         raster-at (sides .w) (sides .h) (placeShows sides gray shear shear-x) x y p q
         ∙ ⊎-elim
-        (λ (m : s ≤ x).
-        ⊎-elim
-        (λ (g : s + sides .pw ≤ x). place-beside sides gray shear shear-x x y (inr g))
-        (λ (g : x < s + sides .pw).
-        let on : x ≡ s + (x - s) = omega arith in
-        place-on sides gray shear shear-x x y (x - s) on (omega arith) ∙ white-column x y (x - s) on (omega arith) none)
-        (le-or-lt (s + sides .pw) x))
-        (λ (m : x < s). place-beside sides gray shear shear-x x y (inl m))
-        (le-or-lt s x)
+        (λ (r : Reached sides shear shear-x x y). absurd (none (r .X) (r .Y) (r .in-columns) (r .in-rows) (r .column) (r .row)))
+        (λ (n : White sides shear shear-x x y gray). n .1)
+        (reached-or-white sides shear shear-x x y gray)
 
     pub levelled-is : Levelling sides gray shear shear-x (levelled sides gray shear shear-x)
     levelled-is = record { long = raster-length (sides .w) (sides .h) (placeShows sides gray shear shear-x); reached = reached; white = white }
+
+module _ (sides : Sides) (gray : List ℕ) (shear shear-x : List ℤ) where
+  -- a place that is reached holds its pixel
+  holds : (out : List ℕ) → Levelling sides gray shear shear-x out → (x y : ℕ) (r : Reached sides shear shear-x x y) → getD out (y * sides .w + x) 0 ≡ getD gray (r .Y * sides .pw + r .X) 0
+  holds out L x y r = ap₂ (λ (i j : ℕ). getD out (j * sides .w + i) 0) (sym (r .column)) (sym (r .row)) ∙ L .reached (r .X) (r .Y) (r .in-columns) (r .in-rows)
+
+  -- the sentence determines the raster, whatever the tables hold
+  pub levelling-unique : (out out′ : List ℕ) → Levelling sides gray shear shear-x out → Levelling sides gray shear shear-x out′ → out ≡ out′
+  levelling-unique out out′ L L′ =
+      let f : ℕ → ℕ → ℕ = λ x y. getD out′ (y * sides .w + x) 0 in
+      raster-is (sides .w) (sides .h) f out (L .long) same ∙ sym (raster-is (sides .w) (sides .h) f out′ (L′ .long) (λ x y p q. refl))
+    where
+      same : (x y : ℕ) → x < sides .w → y < sides .h → getD out (y * sides .w + x) 0 ≡ getD out′ (y * sides .w + x) 0
+      same x y p q =
+          ⊎-elim
+          (λ (r : Reached sides shear shear-x x y). holds out L x y r ∙ sym (holds out′ L′ x y r))
+          (λ (n : White sides shear shear-x x y gray). L .white x y p q (n .0) ∙ sym (L′ .white x y p q (n .0)))
+          (reached-or-white sides shear shear-x x y gray)

@@ -10,5 +10,5 @@ pub mod Shows
 pub mod Paint
 pub mod Settle
 pub mod Back
-pub mod Guards
 pub mod Levelling
+pub mod Guards

@@ -17,7 +17,7 @@ use Rattle.layout.specs.declared.calls.MappedRect.the-variants.{Area, Re
 use Rattle.layout.specs.Sides.{sidesFit, rasterFits}
 use Rattle.layout.specs.Tables.{tablesLong, tablesFit}
 use Rattle.rects.specs.Rects.{inside}
-use Rattle.layout.specs.Level.{levelled}
+use Rattle.layout.specs.Level.{levelled, Levelling}
 use Rattle.layout.specs.ToPage.{toPage, rectToPage}
 
 -- `level_gray` puts 1, 3, 4 and 14; room is the length of the lent raster.
@@ -29,10 +29,12 @@ levelQuestions sides gray shear shear-x room =
     ∷ (14, rasterFits (sides .w) (sides .h) room)
     ∷ []
 
--- `level_gray` returns the number of the first missed question; the raster is the levelling where that is 0, and else as it was.
+-- `level_gray` returns the number of the first missed question; where that is 0, the raster is the levelled one, of which document 01's sentence
+-- holds, and else it is as it was.
 pub record LevelGray (sides : Sides) (gray : List ℕ) (shear shear-x : List ℤ) (out out′ : List ℕ) (number : ℕ) : Type 0 where
   pub is-number : number ≡ firstMissed (levelQuestions sides gray shear shear-x (length out))
   pub raster : out′ ≡ cond (eqb number 0) (levelled sides gray shear shear-x) out
+  pub levelling : number ≡ 0 → Levelling sides gray shear shear-x out′
 
 -- `to_page` and `rect_to_page` put 1, 3, 4 and 6.
 abbrev pub mapQuestions : Sides → List ℤ → List ℤ → Rect → List Question

@@ -29,7 +29,7 @@ placeShows sides gray shear shear-x x y =
     let X = x - entry shear-x y in
     cond (leb (entry shear-x y) x && ltb X (sides .pw)) (columnShows sides gray (entry shear X) X y) 255
 
--- The levelled raster, row by row. `Levelling` below is document 01's sentence, and `levelled-is` proves it of this raster.
+-- The levelled raster, row by row. `Levelling` below is document 01's sentence; it holds of this raster (`levelled-is`) and of no other (`levelling-unique`).
 abbrev pub levelled : Sides → List ℕ → List ℤ → List ℤ → List ℕ
 levelled sides gray shear shear-x = raster (sides .w) (sides .h) (placeShows sides gray shear shear-x)
 

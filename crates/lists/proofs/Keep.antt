@@ -8,7 +8,7 @@ use native.Mathlib.Nat.{not-suc-le-zero, le-of-suc-le-suc, eq-or-lt-of-le, le-st
 use native.Mathlib.Numerals.{add-one}
 use native.Mathlib.Omega.{arith}
 use lib.ListN.{length, getD, length-append, length-map, List·getD-append}
-use lib.Seq.{getD-at}
+use lib.Seq.{getD-at, ext-getD}
 use Rattle.lists.specs.Lists.{below, keep, any, concat, In}
 
 pub length-below : (n : ℕ) → length (below n) ≡ n
@@ -106,14 +106,21 @@ at-in [] k h = absurd (not-suc-le-zero h)
 at-in (x ∷ xs) zero h = List·Memᴰ·head refl
 at-in (x ∷ xs) (suc k) h = List·Memᴰ·tail (at-in xs k (le-of-suc-le-suc h))
 
+pub getD-of : {A B : Type 0} (f : A → B) (s : List A) (k : ℕ) (d : B) (e : A) → k < length s → getD (map f s) k d ≡ f (getD s k e)
+getD-of f [] k d e h = absurd (not-suc-le-zero h)
+getD-of f (x ∷ xs) zero d e h = refl
+getD-of f (x ∷ xs) (suc k) d e h = getD-of f xs k d e (le-of-suc-le-suc h)
+
 pub getD-map : {A : Type 0} (f : ℕ → A) (s : List ℕ) (k : ℕ) (d : A) → k < length s → getD (map f s) k d ≡ f (getD s k 0)
-getD-map f [] k d h = absurd (not-suc-le-zero h)
-getD-map f (x ∷ xs) zero d h = refl
-getD-map f (x ∷ xs) (suc k) d h = getD-map f xs k d (le-of-suc-le-suc h)
+getD-map f s k d h = getD-of f s k d 0 h
 
 pub map-same : {A : Type 0} (f g : ℕ → A) (s : List ℕ) → ((i : ℕ) → In s i → f i ≡ g i) → map f s ≡ map g s
 map-same f g [] h = refl
 map-same f g (x ∷ xs) h = ap₂ _∷_ (h x (List·Memᴰ·head refl)) (map-same f g xs (λ i m. h i (List·Memᴰ·tail m)))
+
+pub map-map : {A B : Type 0} (f : A → B) (g : ℕ → A) (xs : List ℕ) → map f (map g xs) ≡ map (λ k. f (g k)) xs
+map-map f g [] = refl
+map-map f g (x ∷ xs) = ap (λ t. f (g x) ∷ t) (map-map f g xs)
 
 -- the values of f at the numbers below n
 module _ {A : Type 0} (f : ℕ → A) where
@@ -125,3 +132,9 @@ module _ {A : Type 0} (f : ℕ → A) where
 
   pub values-more : (n : ℕ) → map f (below (n + 1)) ≡ map f (below n) ++ (f n ∷ [])
   values-more n = rw (add-one n) (map-append f (below n) (n ∷ []))
+
+-- a list is what stands at each of its places
+pub by-place : {A : Type 0} (xs : List A) (d : A) → map (λ k. getD xs k d) (below (length xs)) ≡ xs
+by-place xs d =
+    ext-getD d (map (λ k. getD xs k d) (below (length xs))) xs (length-values (λ k. getD xs k d) (length xs))
+    (λ i h. getD-values (λ k. getD xs k d) (length xs) i d (rw (length-values (λ k. getD xs k d) (length xs)) at h))

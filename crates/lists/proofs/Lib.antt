@@ -4,3 +4,4 @@ pub mod Keep
 pub mod Every
 pub mod Rooms
 pub mod Sizes
+pub mod Gathered

@@ -7,13 +7,8 @@ use native.Mathlib.Nat.{le-refl, le-step, lt-suc-self}
 use native.Mathlib.Decide.{le-ind}
 use native.Mathlib.Omega.{arith}
 use lib.ListN.{length}
-use Rattle.lists.specs.Lists.{below, keep}
+use Rattle.lists.specs.Lists.{one, below, keep}
 use Rattle.lists.proofs.Keep.{keep-append}
-
--- 1 for a test that passes, and 0 for one that fails
-abbrev pub one : Bool → ℕ
-one true = 1
-one false = 0
 
 module _ {A : Type 0} where
   pub keep-size : (q : A → Bool) (x : A) (xs : List A) → length (keep q (x ∷ xs)) ≡ one (q x) + length (keep q xs)

@@ -19,6 +19,11 @@ unfoldable pub everyBelow : ℕ → (ℕ → Bool) → Bool
 everyBelow zero q = true
 everyBelow (suc n) q = everyBelow n q && q n
 
+-- 1 for a test that passes, and 0 for one that fails.
+abbrev pub one : Bool → ℕ
+one true = 1
+one false = 0
+
 -- Each of four lists has room for n entries, and n fits 32 bits.
 abbrev pub roomFor : ℕ → ℕ → ℕ → ℕ → ℕ → Bool
 roomFor n a b c d = ltb n (2 ^ 32) && leb n a && leb n b && leb n c && leb n d

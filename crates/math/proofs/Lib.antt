@@ -4,6 +4,8 @@ pub mod Ulp
 pub mod Bound
 pub mod Mean
 pub mod Sums
+pub mod Halves
+pub mod SumAt
 pub mod SumBound
 pub mod Rounded
 pub mod Order

@@ -16,7 +16,7 @@ use lib.Ieee.Positive.{num, den, positive, den-pos, first-pos}
 use lib.Ieee.Scale.{finite, grid}
 use borrow.Author.Tests.{ltb-true, ltb-false, eqb-true, le-ltb}
 use Rattle.math.specs.Constants as Constants
-use Rattle.math.specs.Rounding.{nearestWhole, roundAway, roundedProduct}
+use Rattle.math.specs.Rounding.{nearestWhole, roundAway, roundedProduct, UpTo}
 use Rattle.math.specs.Select.{absolute, negative}
 use Rattle.math.proofs.Bound.{AtMost, own-value, grid-at-most, grid-under, round-at-most, mul-at-most}
 use Rattle.math.proofs.Rounded.{nearest-le}
@@ -96,26 +96,22 @@ round-away-not-below n (fin s m e) h N p = round-not-below binary64 s (nearestWh
 
 -- ---- as a whole number
 
--- z is a whole number from 0 to n
-pub record UpTo (n : ℕ) (z : ℤ) : Type 0 where
-  pub size : ℕ
-  pub is : z ≡ pos size
-  pub at-most : size ≤ n
+-- z is the whole number k, which is at most n
+up-to : {n k : ℕ} {z : ℤ} → z ≡ pos k → k ≤ n → UpTo n z
+up-to e h = rw e (record { is = refl; at-most = h })
+
+pub up-to-more : {n m : ℕ} {z : ℤ} → n ≤ m → UpTo n z → UpTo m z
+up-to-more h U = record { is = U .is; at-most = le-trans (U .at-most) h }
 
 pub cast-up-to : (n : ℕ) (x : Float) → AtMost n x → n < 2 ^ 63 → lt x Constants.zero ≡ false → UpTo n (toSigned 63 x)
 unfolding toSigned
 cast-up-to n nan h N p = absurd (h .finite)
 cast-up-to n (inf s) h N p = absurd (h .finite)
-cast-up-to n (fin true m e) h N p = record {
-  size = 0;
-  is = ap (λ (q : ℕ). negℤ (pos (min q (2 ^ 63)))) (ap (λ (a : ℕ). a / down e) (unsigned (fin true m e) tt p refl) ∙ div-eq-of-lt (down-pos e));
-  at-most = omega arith;
-}
-cast-up-to n (fin false m e) h N p = record {
-  size = min (m * up e / down e) (2 ^ 63 - 1);
-  is = refl;
-  at-most = cut (m * up e / down e) (div-lt-iff-lt-mul (down-pos e) .1 (lt-of-le-of-lt (h .size) (mul-lt-mul-of-pos-right (next n) (down-pos e))));
-}
+cast-up-to n (fin true m e) h N p =
+    up-to {k = 0} (ap (λ (q : ℕ). negℤ (pos (min q (2 ^ 63)))) (ap (λ (a : ℕ). a / down e) (unsigned (fin true m e) tt p refl) ∙ div-eq-of-lt (down-pos e))) (omega arith)
+cast-up-to n (fin false m e) h N p =
+    up-to {k = min (m * up e / down e) (2 ^ 63 - 1)} refl
+    (cut (m * up e / down e) (div-lt-iff-lt-mul (down-pos e) .1 (lt-of-le-of-lt (h .size) (mul-lt-mul-of-pos-right (next n) (down-pos e)))))
   where
     next : (n : ℕ) → n < n + 1
     next n = omega arith

@@ -7,12 +7,12 @@ use native.Mathlib.Omega.{arith}
 use native.Mathlib.Numerals.{add-one}
 use mathlib.Core.Bool.{Bool, true, false, cond}
 use mathlib.Core.List.{List, [], _∷_, map}
-use lib.Dec.{T, leb}
+use lib.Dec.{T, leb, le→leb}
 use lib.IntN.{pos}
 use lib.ListN.{length, getD, take, drop, length-take, length-drop, drop-of-length-le}
 use lib.Seq.{drop-cons}
 use lib.Pow.{pow-pos}
-use lib.Ieee.{Float, nan, binary64, prec, round, sum, add, ofInt}
+use lib.Ieee.{Float, nan, binary64, prec, round, sum, add, ofInt, inFloat}
 use lib.Ieee.Back.{round-whole}
 use lib.Ieee.Exact.{HasValue}
 use borrow.Author.Tests.{leb-true, leb-false, le-leb, lt-leb}
@@ -83,6 +83,11 @@ unfolding addedTo
 added-all s xs i h = ap (addedTo s) (drop-of-length-le xs h)
 
 -- ---- whole numbers
+
+-- the cast of a whole number asks that it is at most 2^53
+pub as-float : (n : ℕ) → n ≤ 2 ^ 53 → T (inFloat binary64 (pos n))
+unfolding inFloat
+as-float n h = le→leb n (2 ^ 53) h
 
 pub whole-value : (n : ℕ) → n ≤ 2 ^ 53 → HasValue (whole n) false n 1
 unfolding ofInt

@@ -1,11 +1,11 @@
 -- `pairwise_sum`.
-use Prim.Native.Nat.{ℕ, zero, suc, _+_, _/_}
+use Prim.Native.Nat.{ℕ, zero, suc, _+_, _/_, _<_}
 use mathlib.Core.Bool.{Bool, true, false}
-use mathlib.Core.List.{List, [], _∷_}
+use mathlib.Core.List.{List, [], _∷_, map}
 use lib.Dec.{leb}
 use lib.IntN.{pos}
-use lib.ListN.{length, take, drop}
-use lib.Ieee.{Float, binary64, add, ofInt}
+use lib.ListN.{length, getD, take, drop}
+use lib.Ieee.{Float, nan, binary64, add, ofInt}
 use Rattle.math.specs.Constants as Constants
 
 -- The values added to s, left to right.
@@ -31,6 +31,14 @@ halved (suc d) false xs =
 -- There are always cuts enough: the laws `sum-of-short` and `sum-of-long` (proofs/Sums.antt) are this sentence.
 abbrev pub pairwiseSum : List Float → Float
 pairwiseSum xs = halved (length xs) (short xs) xs
+
+-- The values at some places of a list.
+abbrev pub valuesAt : List Float → List ℕ → List Float
+valuesAt values places = map (λ i. getD values i nan) places
+
+-- Each of these places is in the list.
+abbrev pub PlacesIn : List Float → List ℕ → Type 0
+PlacesIn values places = (k : ℕ) → k < length places → getD places k 0 < length values
 
 -- A whole number as a float.
 abbrev pub whole : ℕ → Float

@@ -2,3 +2,4 @@
 pub mod rounding;
 pub mod select;
 pub mod sum;
+pub mod sum_at;

@@ -8,9 +8,9 @@ use native.Mathlib.Omega.{arith}
 use native.Mathlib.Numerals.{add-one}
 use lib.ListN.{length, getD, drop, drop-of-length-le}
 use lib.Seq.{drop-cons}
-use Rattle.lists.specs.Lists.{keep, any}
+use Rattle.lists.specs.Lists.{one, keep, any}
 use Rattle.lists.proofs.Keep.{true-any, at-in}
-use Rattle.lists.proofs.Sizes.{one, keep-size}
+use Rattle.lists.proofs.Sizes.{keep-size}
 
 module _ (q : ℕ → Bool) (s : List ℕ) where
   rest : (k : ℕ) → k < length s → drop k s ≡ getD s k 0 ∷ drop (k + 1) s

@@ -2,7 +2,7 @@
 use mathlib.Core.Path.{_≡_, refl, ap, _∙_}
 use mathlib.Core.Bool.{Bool, true, false, cond, not, _&&_}
 use mathlib.Core.List.{List}
-use Prim.Native.Nat.{ℕ, _+_, _*_, _<_, _^_}
+use Prim.Native.Nat.{ℕ, _+_, _<_, _^_}
 use native.Mathlib.Omega.{arith}
 use lib.ListN.{length, getD}
 use Rattle.lists.proofs.Keep.{at-in}
@@ -12,14 +12,9 @@ use Rattle.meeting.specs.declared.segment.Segment.{Segment}
 use Rattle.meeting.specs.Segments.{opposite, spanHolds, touches}
 use Rattle.meeting.specs.Steps.{Given, Inside}
 
-pub sums-fit : {rects directions chosen : List ℕ} → Given rects directions chosen → (k : ℕ) (r : Rect) → r ≡ rectAt rects k
+pub sums-fit : {rects directions chosen : List ℕ} → Given rects directions chosen → (i : ℕ) → i < length chosen → (r : Rect) → r ≡ rectAt rects (getD chosen i 0)
     → (r .x0 + r .x1 < 2 ^ 32) × (r .y0 + r .y1 < 2 ^ 32)
-sums-fit G k r e =
-    let a = G .small (4 * k) in
-    let b = G .small (4 * k + 1) in
-    let c = G .small (4 * k + 2) in
-    let d = G .small (4 * k + 3) in
-    rw e (omega arith, omega arith)
+sums-fit G i l r e = let I = G .inside i l in rw e (omega (arith, I .wide, I .right), omega (arith, I .high, I .bottom))
 
 -- the member at a place of a set
 pub member-within : {n : ℕ} (set : List ℕ) → Inside n set → (k : ℕ) → k < length set → getD set k 0 < n

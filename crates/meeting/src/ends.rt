@@ -2,8 +2,7 @@
 ghost use mathlib.Core.Path.{_≡_};
 ghost use Prim.Native.Nat.{_+_, _<_, _^_};
 ghost use lib.ListN.{length};
-ghost use Rattle.lists.specs.Lists.{any};
-ghost use Rattle.lists.proofs.Sizes.{one};
+ghost use Rattle.lists.specs.Lists.{any, one};
 ghost use Rattle.meeting.specs.Segments.{rulingAt, joinsEnd};
 ghost use Rattle.meeting.specs.Meeting.{endJoined, joinedEnds, shareOf};
 ghost use Rattle.meeting.specs.Steps.{Given, Inside};

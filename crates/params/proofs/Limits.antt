@@ -6,14 +6,15 @@ use native.Mathlib.Nat.{le-trans, le-of-eq, mul-one, one-mul, mul-le-mul-right}
 use native.Mathlib.Omega.{arith}
 use mathlib.Core.Bool.{true, false}
 use lib.Dec.{eqb, lit<, lit≤}
+use lib.IntN.{ℤ}
 use lib.Ieee.{Float, binary64, mul, lt, ofBits}
 use lib.Ieee.Positive.{num, den, value→cross}
 use lib.Ieee.Scale.{finite}
 use borrow.Author.Tests.{not-true, eqb-false}
 use Rattle.math.specs.Constants.{zero, two}
-use Rattle.math.specs.Rounding.{roundedProduct}
+use Rattle.math.specs.Rounding.{roundedProduct, UpTo}
 use Rattle.math.proofs.Bound.{AtMost, AtLeast, value-at-most, mul-at-most}
-use Rattle.math.proofs.Limit.{UpTo, rounded-product-up-to, mul-not-below}
+use Rattle.math.proofs.Limit.{up-to-more, rounded-product-up-to, mul-not-below}
 use Rattle.math.proofs.Sums.{whole, whole-value}
 use Rattle.questions.specs.Questions.{firstMissed}
 use Rattle.questions.proofs.FirstMissed.{all-yes}
@@ -21,7 +22,9 @@ use Rattle.params.specs.declared.settings.RulingsParams.{RulingsParams}
 use Rattle.params.specs.Scan.{dpiGiven, xheightInRange, scanQuestions, dpiQuestions, xheightQuestions}
 use Rattle.params.proofs.Every.{both-true}
 use Rattle.params.proofs.Bounds.{XHeight, xheight-says}
-use Rattle.params.proofs.Passed.{Validated}
+use Rattle.params.specs.Limits.{alignSetting}
+use Rattle.params.specs.Settled.{Settled}
+use Rattle.params.proofs.Passed.{Validated, settings-passed}
 
 -- ---- the scan
 
@@ -80,20 +83,26 @@ doubled-limit-up-to x y h p k =
     rounded-product-up-to (2 * 1_000_000) 4096 (mul binary64 two x) y (mul-at-most binary64 2 1_000_000 two x two-at-most h (lit< tt)) (k .at-most) (lit< tt)
     (mul-not-below binary64 2 1_000_000 two x two-at-most h (lit< tt) two-not-below p) (k .not-below)
 
--- the limits of pieces, of rulings, of lines and of boxes
+-- the limits of settings and an x-height that passed their questions: each is the rounded product, and small
 pub record Limits (p : RulingsParams) (xheight : Float) : Type 0 where
-  pub «merge_across» : UpTo (1_000_000 * 4096) (roundedProduct (p .«merge_across_xh») xheight)
-  pub «merge_gap» : UpTo (1_000_000 * 4096) (roundedProduct (p .«merge_gap_xh») xheight)
-  pub «join_tol» : UpTo (1_000_000 * 4096) (roundedProduct (p .«join_tol_xh») xheight)
-  pub «line_cluster» : UpTo (1_000_000 * 4096) (roundedProduct (p .«line_cluster_xh») xheight)
-  pub «grid_align» : UpTo (2 * 1_000_000 * 4096) (roundedProduct (mul binary64 two (p .«grid_align_xh»)) xheight)
+  pub across : UpTo (1_000_000 * 4096) (roundedProduct (p .«merge_across_xh») xheight)
+  pub gap : UpTo (1_000_000 * 4096) (roundedProduct (p .«merge_gap_xh») xheight)
+  pub join : UpTo (1_000_000 * 4096) (roundedProduct (p .«join_tol_xh») xheight)
+  pub line : UpTo (1_000_000 * 4096) (roundedProduct (p .«line_cluster_xh») xheight)
+  pub align : UpTo (2 * 1_000_000 * 4096) (roundedProduct (alignSetting p) xheight)
 
-pub limits : (p : RulingsParams) (xheight : Float) → Validated p → XHeight xheight → Limits p xheight
-limits p xheight v x =
+pub limits : (p : RulingsParams) (xheight : Float) → Settled p xheight → Limits p xheight
+limits p xheight S =
+    let v = settings-passed p (S .settings) .0 in
+    let x = xheight-passed xheight (S .xheight-passed) in
     record {
-      «merge_across» = limit-up-to (p .«merge_across_xh») xheight (v .floats .«merge_across_xh») (v .lengths .«merge_across_xh») x;
-      «merge_gap» = limit-up-to (p .«merge_gap_xh») xheight (v .floats .«merge_gap_xh») (v .lengths .«merge_gap_xh») x;
-      «join_tol» = limit-up-to (p .«join_tol_xh») xheight (v .floats .«join_tol_xh») (v .lengths .«join_tol_xh») x;
-      «line_cluster» = limit-up-to (p .«line_cluster_xh») xheight (v .floats .«line_cluster_xh») (v .lengths .«line_cluster_xh») x;
-      «grid_align» = doubled-limit-up-to (p .«grid_align_xh») xheight (v .floats .«grid_align_xh») (v .lengths .«grid_align_xh») x;
+      across = limit-up-to (p .«merge_across_xh») xheight (v .floats .«merge_across_xh») (v .lengths .«merge_across_xh») x;
+      gap = limit-up-to (p .«merge_gap_xh») xheight (v .floats .«merge_gap_xh») (v .lengths .«merge_gap_xh») x;
+      join = limit-up-to (p .«join_tol_xh») xheight (v .floats .«join_tol_xh») (v .lengths .«join_tol_xh») x;
+      line = limit-up-to (p .«line_cluster_xh») xheight (v .floats .«line_cluster_xh») (v .lengths .«line_cluster_xh») x;
+      align = doubled-limit-up-to (p .«grid_align_xh») xheight (v .floats .«grid_align_xh») (v .lengths .«grid_align_xh») x;
     }
+
+-- small enough for what `limit` asks
+pub limit-fits : {z : ℤ} → UpTo (1_000_000 * 4096) z → UpTo (2 * 1_000_000 * 4096) z
+limit-fits U = up-to-more (lit≤ tt) U

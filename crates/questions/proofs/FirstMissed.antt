@@ -52,6 +52,11 @@ all-yes ((n, b) ∷ qs) t h = at n b (numbered qs) (firstMissed qs) t h (all-yes
     at (suc n) true m rest t h f = (refl, f (others (suc n) m t) h)
     at (suc n) false m rest t h f = absurd (omega arith)
 
+-- the answers to two runs of questions, one after the other
+pub yes-parts : (ps qs : List Question) → AllYes (ps ++ qs) → AllYes ps × AllYes qs
+yes-parts [] qs y = (tt, y)
+yes-parts (p ∷ ps) qs y = let r = yes-parts ps qs (y .1) in ((y .0, r .0), r .1)
+
 -- a guard that asks some questions and then others: the first part's number unless it is 0
 pub in-two-parts : (ps qs : List Question) → T (numbered ps) → firstMissed (ps ++ qs) ≡ cond (eqb (firstMissed ps) 0) (firstMissed qs) (firstMissed ps)
 in-two-parts [] qs t = refl

@@ -36,6 +36,10 @@ pub record Inside (w h : ℕ) (r : Rect) : Type 0 where
   pub right : r .x1 < w
   pub bottom : r .y1 < h
 
+-- Every rectangle of a list lies so.
+abbrev pub AllInside : ℕ → ℕ → List ℕ → Type 0
+AllInside w h rects = (k : ℕ) → k < count rects → Inside w h (rectAt rects k)
+
 -- Question 5: at most so many rectangles, and a whole number of them.
 abbrev pub countFits : ℕ → List ℕ → Bool
 countFits most rects = eqb (length rects % 4) 0 && leb (count rects) most

@@ -1,34 +1,24 @@
 -- What a page is once its questions were answered yes.
-use mathlib.Core.Path.{_≡_, sym, ap, _∙_}
+use mathlib.Core.Path.{_≡_}
 use mathlib.Core.Bool.{Bool, true, _&&_}
-use mathlib.Core.List.{List}
-use Prim.Native.Nat.{ℕ, _*_, _^_, _≤_, _<_}
-use native.Mathlib.Omega.{arith}
+use mathlib.Core.List.{List, [], _∷_}
+use Prim.Native.Nat.{ℕ, _*_, _≤_}
 use lib.Dec.{leb, eqb}
 use lib.Ieee.{Float}
-use lib.IntN.{ℤ, pos, natAbs}
 use lib.ListN.{length}
 use borrow.Author.Tests.{leb-true, eqb-true}
 use Rattle.lists.proofs.Every.{and-first, and-second}
-use Rattle.math.specs.Rounding.{roundedProduct}
-use Rattle.math.proofs.Limit.{UpTo}
 use Rattle.questions.specs.Questions.{firstMissed}
-use Rattle.questions.proofs.FirstMissed.{AllYes, all-yes}
+use Rattle.questions.proofs.FirstMissed.{all-yes, none-missed, yes-parts}
 use Rattle.rects.specs.Rects.{count}
 use Rattle.rects.proofs.Questions.{count-says, all-inside-says}
-use Rattle.layout.specs.Sides.{levelledSidesFit}
+use Rattle.layout.proofs.Answers.{sides-say}
 use Rattle.params.specs.declared.settings.RulingsParams.{RulingsParams}
-use Rattle.params.proofs.Bounds.{xheight-says}
-use Rattle.params.proofs.Passed.{floats-say, lengths-say}
-use Rattle.params.proofs.Limits.{limit-up-to}
+use Rattle.params.specs.Scan.{xheightQuestions}
+use Rattle.params.specs.Settings.{settingsQuestions}
+use Rattle.params.specs.Settled.{Settled}
 use Rattle.segments.specs.Contract.{answersFit, workFits, roomFits, segmentsQuestions}
-use Rattle.segments.specs.Steps.{Whole, WorkRoom, Ready}
-
-pub sides-say : (w h : ℕ) → levelledSidesFit w h ≡ true → (w ≤ 8192) × (h ≤ 8192)
-sides-say w h t =
-    let width = leb 1 w && leb w 8192 in
-    let height = leb 1 h && leb h 8192 in
-    (leb-true w 8192 (and-second (leb 1 w) (leb w 8192) (and-first width height t)), leb-true h 8192 (and-second (leb 1 h) (leb h 8192) (and-second width height t)))
+use Rattle.segments.specs.Steps.{WorkRoom, Ready}
 
 -- ---- question 14
 
@@ -95,25 +85,15 @@ work-says ps ls le ws ks n t =
       keys = leb-true n (length ks) (and-second b3 (leb n (length ks)) t);
     }
 
--- ---- the limits
+-- ---- what the questions say of the settings
 
-whole : {z : ℤ} → UpTo (1_000_000 * 4096) z → Whole z
-whole u = record { is = u .is ∙ ap (λ (x : ℤ). pos (natAbs x)) (sym (u .is)); small = small u }
-  where
-    small : {z : ℤ} → UpTo (1_000_000 * 4096) z → natAbs z < 2 ^ 32
-    small u = rw (u .is) (omega (arith, u .at-most))
-
-module _ (w h : ℕ) (xheight : Float) (pieces : List ℕ) (p : RulingsParams) (room : Bool) (none : firstMissed (segmentsQuestions w h xheight pieces p room) ≡ 0) where
-  answers : AllYes (segmentsQuestions w h xheight pieces p room)
-  answers = all-yes (segmentsQuestions w h xheight pieces p room) tt none
-
-  pub across-whole : Whole (roundedProduct (p .«merge_across_xh») xheight)
-  across-whole =
-      whole (limit-up-to (p .«merge_across_xh») xheight (floats-say p (answers .1 .1 .1 .1 .0) .«merge_across_xh») (lengths-say p (answers .1 .1 .1 .1 .1 .0) .«merge_across_xh») (xheight-says xheight (answers .1 .0)))
-
-  pub gap-whole : Whole (roundedProduct (p .«merge_gap_xh») xheight)
-  gap-whole =
-      whole (limit-up-to (p .«merge_gap_xh») xheight (floats-say p (answers .1 .1 .1 .1 .0) .«merge_gap_xh») (lengths-say p (answers .1 .1 .1 .1 .1 .0) .«merge_gap_xh») (xheight-says xheight (answers .1 .0)))
+pub settled : (w h : ℕ) (xheight : Float) (pieces : List ℕ) (p : RulingsParams) (room : Bool) → firstMissed (segmentsQuestions w h xheight pieces p room) ≡ 0 → Settled p xheight
+settled w h xheight pieces p room none =
+    let y = all-yes (segmentsQuestions w h xheight pieces p room) tt none in
+    record {
+      settings = none-missed (settingsQuestions p) (yes-parts (settingsQuestions p) ((14, room) ∷ []) (y .1 .1 .1 .1) .0);
+      xheight-passed = none-missed (xheightQuestions xheight) (y .1 .0, tt);
+    }
 
 -- ---- what the core is given
 
@@ -125,7 +105,7 @@ ready raster w h xheight pieces p rs ds cs ms es ps ls le ws ks none =
     let n = count pieces in
     let fits = answersFit w h n (length raster) (length rs) (length ds) (length cs) (length ms) (length es) in
     let holds = workFits n (length ps) (length ls) (length le) (length ws) (length ks) in
-    let yes = answers w h xheight pieces p (fits && holds) none in
+    let yes = all-yes (segmentsQuestions w h xheight pieces p (fits && holds)) tt none in
     let sides = sides-say w h (yes .0) in
     let room : fits && holds ≡ true = yes .1 .1 .1 .1 .1 .1 .1 .1 .1 .1 .0 in
     let first = and-first fits holds room in

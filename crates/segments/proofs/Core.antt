@@ -10,7 +10,8 @@ use Rattle.order.specs.Order.{keyAt, sortedIndexes}
 use Rattle.order.proofs.Computed.{sorted-length}
 use Rattle.rects.specs.Rects.{count}
 use Rattle.sets.specs.Closed.{Below, Listed}
-use Rattle.sets.specs.Listing.{membersOf, endsFrom}
+use Rattle.sets.specs.Listing.{membersOf, endsFrom, ReadAs}
+use Rattle.sets.proofs.Listings.{read-as}
 use Rattle.pieces.specs.Pieces.{Touch}
 use Rattle.segments.specs.Rulings.{pieceSets, keysOf, rulingSets}
 use Rattle.segments.specs.Steps.{Parts, partsOf, inOrder, Strung, RoomForSets, Described, RoomForRulings, SetsListed, SetsOrdered, Made}
@@ -28,6 +29,11 @@ listing-parts pieces ss m e L room ends {ms} {es} {r} p q c =
       some = λ k h. rw (part-is ss m e room ends p q c k) (L .closed k (rw c at h) .nonempty);
       known = λ k i h j. L .closed k (rw c at h) .within i (rw (part-is ss m e room ends p q c k) at j);
     }
+
+-- and the lists give each set back
+listing-read : (ss : List (List ℕ)) (m e : List ℕ) → length (concat ss) ≤ length m → length ss ≤ length e
+    → {ms es : List ℕ} {r : ℕ} → ms ≡ written (concat ss) m → es ≡ written (endsFrom 0 ss) e → r ≡ length ss → ReadAs ss ms es r
+listing-read ss m e room ends p q c = rw (p, q, c) (read-as ss m e room ends)
 
 module _ (pieces : List ℕ) (across gap : ℕ) {ls le ls′ le′ : List ℕ} {r : ℕ} (L : SetsListed (pieceSets pieces across gap) (count pieces) ls le ls′ le′ r) where
   pub few-sets : r ≤ count pieces
@@ -85,9 +91,11 @@ module _ (pieces : List ℕ) (across gap : ℕ) {ls le ls′ le′ : List ℕ} {
         → Made raster w h pieces (rulingSets pieces across gap) rs ds cs ms es rs′ ds′ cs′ ms′ es′ r
     made {raster} {w} {h} {rs} {ds} {rs′} {ds′} {cs} {cs′} D =
         record {
+          few = few-sets;
           count = long;
           described =
               subst (λ (ss : List (List ℕ)). Described raster w h pieces ss rs ds cs rs′ ds′ cs′)
               (parts-are (rulingSets pieces across gap) ms es (fits room) (few ends) (S .members) (S .ends) long) D;
           strung = S;
+          read = listing-read (rulingSets pieces across gap) ms es (fits room) (few ends) (S .members) (S .ends) long;
         }

@@ -10,7 +10,7 @@ use borrow.Author.Tests.{eqb-true}
 use lib.Dec.{eqb}
 use lib.ListN.{length, getD, length-map}
 use Rattle.lists.specs.Lists.{In, below, keep, concat}
-use Rattle.lists.proofs.Keep.{at-in, getD-map, kept-in}
+use Rattle.lists.proofs.Keep.{at-in, by-place, getD-of, getD-map, kept-in}
 use Rattle.sets.specs.Closed.{Below, Closed, Listed}
 use Rattle.sets.specs.Listing.{closedSet, closedSets}
 use Rattle.sets.proofs.Ascending.{ascending-keep, ascending-below, ascending-at}
@@ -20,17 +20,14 @@ use Rattle.sets.proofs.Reordered.{listed-ordered}
 use Rattle.order.specs.Order.{keyAt, Before, Sorted, sortedIndexes}
 use Rattle.order.proofs.Computed.{sorted-by, sorted-length}
 use Rattle.rects.specs.declared.Rect.{Rect}
-use Rattle.rects.specs.Rects.{count, rectAt}
+use Rattle.rects.specs.Rects.{count, rectAt, AllInside}
 use Rattle.rects.specs.Around.{around}
 use Rattle.rects.proofs.Around.{around-smallest}
-use Rattle.rects.proofs.Questions.{Inside, all-inside-says}
+use Rattle.rects.specs.Rects.{Inside}
 use Rattle.pieces.specs.Pieces.{horizontal, touch, Touch}
 use Rattle.segments.specs.Rulings.{pieceSets, keyOf, keysOf, rulingSets, directionOf, directionNumber, StandsBefore}
-use Rattle.segments.specs.Contract.{Demand3}
-use Rattle.segments.specs.Steps.{AllInside}
-use Rattle.segments.proofs.Accepted.{sides-say}
+use Rattle.segments.specs.Contract.{Demand3, InOrder}
 use Rattle.pieces.proofs.Touching.{touching-agrees}
-use Rattle.segments.proofs.Parts.{by-place}
 use Rattle.segments.proofs.Rectangles.{all-wider, around-inside}
 use Rattle.segments.proofs.Order.{key-orders, key-tells, size-sorted}
 
@@ -39,11 +36,6 @@ number-tells true true e = refl
 number-tells true false e = absurd (omega arith)
 number-tells false true e = absurd (omega arith)
 number-tells false false e = refl
-
-at-map : {A : Type 0} (f : List A → ℕ) (ls : List (List A)) (k : ℕ) → k < length ls → getD (map f ls) k 0 ≡ f (getD ls k [])
-at-map f [] k h = absurd (not-suc-le-zero h)
-at-map f (l ∷ ls) zero h = refl
-at-map f (l ∷ ls) (suc k) h = at-map f ls k (le-of-suc-le-suc h)
 
 -- each listed set begins with its smallest index, and these ascend
 closedSets-ascend : (n : ℕ) (touching : ℕ → ℕ → Bool) (a b : ℕ) → a < b → b < length (closedSets n touching)
@@ -116,7 +108,7 @@ module _ (pieces : List ℕ) (across gap : ℕ) where
   from-order k h = getD-map (λ m. getD ss m []) order k [] h
 
   key-at : (a : ℕ) → a < length ss → keyAt keys a ≡ keyOf (around pieces (getD ss a []))
-  key-at a h = at-map (λ s. keyOf (around pieces s)) ss a h
+  key-at a h = getD-of (λ s. keyOf (around pieces s)) ss a 0 [] h
 
   module _ (inside : AllInside 8192 8192 pieces) where
     set-inside : (a : ℕ) → a < length ss → Inside 8192 8192 (around pieces (getD ss a []))
@@ -127,8 +119,7 @@ module _ (pieces : List ℕ) (across gap : ℕ) where
     stands a b ha hb (inr e) =
         inr (key-tells (set-inside a ha) (set-inside b hb) (sym (key-at a ha) ∙ e .0 ∙ key-at b hb), closedSets-ascend (count pieces) (touch pieces across gap) a b (e .1) hb)
 
-    in-order : (k l : ℕ) → k < l → l < length (rulingSets pieces across gap)
-        → StandsBefore pieces (getD (rulingSets pieces across gap) k []) (getD (rulingSets pieces across gap) l [])
+    pub in-order : InOrder pieces (rulingSets pieces across gap)
     in-order k l h g =
         let n : length keys ≡ length ss = keys-long in
         let lo : l < length order = omega (arith, order-long, rulings-long) in
@@ -142,7 +133,4 @@ module _ (pieces : List ℕ) (across gap : ℕ) where
         listed = rulings-listed;
         smallest = λ k h. around-smallest pieces (getD (rulingSets pieces across gap) k []) (rulings-closed k h .nonempty);
         direction = λ k i h m. one-direction (rulings-closed k h) i m;
-        order = λ w h t u.
-            let s = sides-say w h t in
-            in-order (all-wider pieces (s .0) (s .1) (all-inside-says w h pieces u));
       }

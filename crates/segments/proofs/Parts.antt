@@ -1,25 +1,14 @@
 -- The parts of a listing are its sets, also where they are read in another order.
-use mathlib.Core.Path.{_≡_, refl, sym, ap, _∙_}
-use mathlib.Core.List.{List, [], _∷_, map}
+use mathlib.Core.Path.{_≡_, sym, ap, _∙_}
+use mathlib.Core.List.{List, [], map}
 use Prim.Native.Nat.{ℕ, _≤_, _<_}
 use lib.ListN.{length, getD}
-use lib.Seq.{ext-getD}
 use Rattle.lists.specs.Lists.{below, concat, written}
-use Rattle.lists.proofs.Keep.{length-values, getD-values, getD-map, map-same, below-in}
+use Rattle.lists.proofs.Keep.{map-map, map-same, by-place, below-in}
 use Rattle.lists.proofs.Written.{written-at}
 use Rattle.sets.specs.Listing.{membersOf, endsFrom}
 use Rattle.sets.proofs.Listings.{members-listed}
 use Rattle.segments.specs.Steps.{partsOf, inOrder}
-
-pub map-map : {A B : Type 0} (f : A → B) (g : ℕ → A) (xs : List ℕ) → map f (map g xs) ≡ map (λ k. f (g k)) xs
-map-map f g [] = refl
-map-map f g (x ∷ xs) = ap (λ t. f (g x) ∷ t) (map-map f g xs)
-
--- a list is what stands at each of its places
-pub by-place : {A : Type 0} (xs : List A) (d : A) → map (λ k. getD xs k d) (below (length xs)) ≡ xs
-by-place xs d =
-    ext-getD d (map (λ k. getD xs k d) (below (length xs))) xs (length-values (λ k. getD xs k d) (length xs))
-    (λ i h. getD-values (λ k. getD xs k d) (length xs) i d (rw (length-values (λ k. getD xs k d) (length xs)) at h))
 
 module _ (ss : List (List ℕ)) (m e : List ℕ) (room : length (concat ss) ≤ length m) (ends : length ss ≤ length e) where
   pub parts-are : {ms es : List ℕ} {n : ℕ} → ms ≡ written (concat ss) m → es ≡ written (endsFrom 0 ss) e → n ≡ length ss → partsOf ms es n ≡ ss

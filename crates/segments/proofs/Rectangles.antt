@@ -7,12 +7,11 @@ use lib.ListN.{length, getD}
 use Rattle.lists.specs.Lists.{In}
 use Rattle.lists.proofs.Keep.{at-in}
 use Rattle.rects.specs.declared.Rect.{Rect}
-use Rattle.rects.specs.Rects.{count, rectAt}
+use Rattle.rects.specs.Rects.{count, rectAt, AllInside}
 use Rattle.rects.specs.Around.{Holds, around, Places}
 use Rattle.rects.proofs.Around.{around-smallest}
 use Rattle.rects.proofs.Questions.{Inside, has-numbers}
 use Rattle.pieces.specs.Steps.{Ordered, AllOrdered}
-use Rattle.segments.specs.Steps.{AllInside}
 
 pub inside-ordered : {w h : ℕ} {r : Rect} → Inside w h r → Ordered r
 inside-ordered i = record { wide = i .wide; high = i .high }

@@ -4,7 +4,7 @@ use mathlib.Core.Path.{_≡_}
 use mathlib.Core.Bool.{Bool, cond}
 use mathlib.Core.Logic.{_⊎_}
 use mathlib.Core.List.{List, [], _∷_, map}
-use lib.Ieee.{Float, le}
+use lib.Ieee.{Float}
 use lib.ListN.{length, getD}
 use Rattle.lists.specs.Lists.{concat}
 use Rattle.sets.specs.Listing.{closedSets}
@@ -12,8 +12,7 @@ use Rattle.order.specs.Order.{sortedIndexes}
 use Rattle.rects.specs.declared.Rect.{Rect}
 use Rattle.rects.specs.Rects.{count, rectAt, numbersOf}
 use Rattle.rects.specs.Around.{around}
-use Rattle.params.specs.declared.settings.RulingsParams.{RulingsParams}
-use Rattle.contrast.specs.Contrast.{contrastOf}
+use Rattle.contrast.specs.Contrast.{contrastOf, NearContrast}
 use Rattle.segments.specs.declared.ruling.Ruling.{Ruling}
 use Rattle.pieces.specs.Pieces.{horizontal, touch}
 
@@ -47,6 +46,10 @@ rulingOf raster w h pieces s =
       contrast = contrastOf raster w h (around pieces s) (directionOf pieces s);
     }
 
+-- x is within 2^-45 of the exact contrast of the ruling that a set of pieces makes.
+abbrev pub Near : List ℕ → ℕ → ℕ → List ℕ → List ℕ → Float → Type 0
+Near raster w h pieces s x = NearContrast raster w h (around pieces s) (directionOf pieces s) x
+
 -- A direction as a number: 0 for horizontal and 1 for vertical.
 abbrev pub directionNumber : Bool → ℕ
 directionNumber h = cond h 0 1
@@ -60,10 +63,6 @@ directionsOf pieces ss = map (λ s. directionNumber (directionOf pieces s)) ss
 
 abbrev pub contrastsOf : List ℕ → ℕ → ℕ → List ℕ → List (List ℕ) → List Float
 contrastsOf raster w h pieces ss = map (λ s. rulingOf raster w h pieces s .contrast) ss
-
--- Printed: contrast at least rule_min_contrast. A ruling that is not printed is faint.
-abbrev pub printed : RulingsParams → Float → Bool
-printed p contrast = le (p .«rule_min_contrast») contrast
 
 -- One rectangle stands before another by y0, x0, y1, x1.
 abbrev pub Earlier : Rect → Rect → Type 0

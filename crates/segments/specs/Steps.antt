@@ -2,22 +2,17 @@
 use Prim.Native.Nat.{ℕ, _+_, _*_, _^_, _≤_, _<_}
 use mathlib.Core.Path.{_≡_}
 use mathlib.Core.Bool.{Bool, cond}
-use mathlib.Core.List.{List, map}
+use mathlib.Core.List.{List, [], map}
 use lib.Ieee.{Float}
-use lib.IntN.{ℤ, pos, natAbs}
 use lib.ListN.{length, getD}
 use lib.Seq.{sets}
 use Rattle.lists.specs.Lists.{In, below, concat, written}
-use Rattle.sets.specs.Listing.{membersOf, endsFrom}
+use Rattle.sets.specs.Listing.{membersOf, endsFrom, ReadAs}
 use Rattle.order.specs.Order.{sortedIndexes}
 use Rattle.rects.specs.declared.Rect.{Rect}
-use Rattle.rects.specs.Rects.{count, rectAt}
-use Rattle.rects.proofs.Questions.{Inside}
-use Rattle.segments.specs.Rulings.{keysOf, rectanglesOf, directionsOf, contrastsOf}
-
--- Every rectangle of a list lies in a picture of w columns and h rows.
-abbrev pub AllInside : ℕ → ℕ → List ℕ → Type 0
-AllInside w h rects = (k : ℕ) → k < count rects → Inside w h (rectAt rects k)
+use Rattle.rects.specs.Rects.{count, AllInside}
+use Rattle.segments.specs.declared.ruling.Ruling.{Ruling}
+use Rattle.segments.specs.Rulings.{keysOf, rulingOf, Near, rectanglesOf, directionsOf, contrastsOf}
 
 -- Each of the first n parts of a listing has a member, and its members are pieces.
 pub record Parts (pieces ms es : List ℕ) (n : ℕ) : Type 0 where
@@ -48,11 +43,21 @@ pub record RoomForSets (ss : List (List ℕ)) (ms es : List ℕ) : Type 0 where
   pub ends : length ss ≤ length es
   pub small : length (concat ss) < 2 ^ 32
 
+-- The contrast of a set's ruling is near its exact value.
+abbrev pub NearOwn : List ℕ → ℕ → ℕ → List ℕ → List ℕ → Type 0
+NearOwn raster w h pieces s = Near raster w h pieces s (rulingOf raster w h pieces s .contrast)
+
+-- What making a ruling promises of it.
+pub record RulingMade (raster : List ℕ) (w h : ℕ) (pieces s : List ℕ) (r : Ruling) : Type 0 where
+  pub value : r ≡ rulingOf raster w h pieces s
+  pub near : NearOwn raster w h pieces s
+
 -- The rulings of some sets were written from the front of three lists.
 pub record Described (raster : List ℕ) (w h : ℕ) (pieces : List ℕ) (ss : List (List ℕ)) (rs ds : List ℕ) (cs : List Float) (rs′ ds′ : List ℕ) (cs′ : List Float) : Type 0 where
   pub rects : rs′ ≡ written (rectanglesOf pieces ss) rs
   pub directions : ds′ ≡ written (directionsOf pieces ss) ds
   pub contrasts : cs′ ≡ written (contrastsOf raster w h pieces ss) cs
+  pub near : (k : ℕ) → k < length ss → NearOwn raster w h pieces (getD ss k [])
 
 -- Three lists have room for n rulings.
 pub record RoomForRulings (n : ℕ) (rs ds : List ℕ) (cs : List Float) : Type 0 where
@@ -66,11 +71,6 @@ pub record Picture (raster : List ℕ) (w h : ℕ) (pieces : List ℕ) : Type 0 
   pub narrow : w ≤ 8192
   pub low : h ≤ 8192
   pub inside : AllInside w h pieces
-
--- A limit is a whole number of 32 bits.
-pub record Whole (z : ℤ) : Type 0 where
-  pub is : z ≡ pos (natAbs z)
-  pub small : natAbs z < 2 ^ 32
 
 -- The sets were strung together from the front of two lists; they have no more members than there are pieces, and are no more.
 pub record SetsListed (ss : List (List ℕ)) (n : ℕ) (ls le ls′ le′ : List ℕ) (r : ℕ) : Type 0 where
@@ -100,8 +100,17 @@ pub record Ready (raster : List ℕ) (w h : ℕ) (pieces : List ℕ) (rs ds : Li
   pub ends : count pieces ≤ length es
   pub work : WorkRoom (count pieces) ps ls le ws ks
 
--- The rulings of some sets were written, and the sets with them.
+-- The rulings of some sets were written, and the sets with them; there are no more rulings than pieces, and the lists give
+-- each set back.
 pub record Made (raster : List ℕ) (w h : ℕ) (pieces : List ℕ) (ss : List (List ℕ)) (rs ds : List ℕ) (cs : List Float) (ms es rs′ ds′ : List ℕ) (cs′ : List Float) (ms′ es′ : List ℕ) (r : ℕ) : Type 0 where
+  pub few : r ≤ count pieces
   pub count : r ≡ length ss
   pub described : Described raster w h pieces ss rs ds cs rs′ ds′ cs′
   pub strung : Strung ss ms es ms′ es′
+  pub read : ReadAs ss ms′ es′ r
+
+-- There are at most 4,096 rulings, and two lists have room for a place of each.
+pub record RoomForPlaces (contrasts : List Float) (ps fs : List ℕ) : Type 0 where
+  pub few : length contrasts ≤ 4096
+  pub printed : length contrasts ≤ length ps
+  pub faint : length contrasts ≤ length fs

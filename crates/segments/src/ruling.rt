@@ -4,9 +4,8 @@ ghost use Prim.Native.Nat.{ℕ, _<_};
 ghost use lib.ListN.{length};
 ghost use Rattle.lists.specs.Lists.{In};
 ghost use Rattle.rects.specs.Rects.{count};
-ghost use Rattle.segments.specs.Rulings.{rulingOf, printed, directionNumber};
-ghost use Rattle.segments.specs.Steps.{Picture};
-use params::settings::RulingsParams;
+ghost use Rattle.segments.specs.Rulings.{directionNumber};
+ghost use Rattle.segments.specs.Steps.{Picture, RulingMade};
 use rects::Rect;
 
 // `horizontal` is the direction of its pieces, whatever shape the joined rectangle has.
@@ -17,13 +16,6 @@ pub struct Ruling {
 }
 
 impl Ruling {
-    // Printed rulings are dark enough; the others are faint.
-    pub fn is_printed(self, p: RulingsParams) -> bool
-        ensures { λ t. ⌜ t ≡ printed p (self .contrast) ⌝ }
-    {
-        p.rule_min_contrast <= self.contrast
-    }
-
     // 0 for horizontal and 1 for vertical.
     pub fn direction(self) -> u32
         ensures { λ d. ⌜ d ≡ directionNumber (self .horizontal) ⌝ }
@@ -35,7 +27,7 @@ impl Ruling {
 // The ruling that a set of pieces makes.
 pub fn ruling_of(raster: &[u8], w: usize, h: usize, pieces: &[u32], set: &[u32]) -> Ruling
     requires { ⌜ Picture (now raster) w h (now pieces) × (0 < length (now set)) × ((i : ℕ) → In (now set) i → i < count (now pieces)) ⌝ }
-    ensures { λ r. ⌜ r ≡ rulingOf (now (raster .entry)) w h (now (pieces .entry)) (now (set .entry)) ⌝ }
+    ensures { λ r. ⌜ RulingMade (now (raster .entry)) w h (now (pieces .entry)) (now (set .entry)) r ⌝ }
 {
     let rect = rects::bounding(pieces, set);
     let first = rects::rect_at(pieces, set[0] as usize);

@@ -1,12 +1,9 @@
 // The call: pieces to rulings.
-ghost use mathlib.Core.Path.{_≡_};
-ghost use lib.IntN.{natAbs};
 ghost use lib.ListN.{length};
-ghost use Rattle.math.specs.Rounding.{roundedProduct};
 ghost use Rattle.rects.specs.Rects.{count};
 ghost use Rattle.segments.specs.Rulings.{rulingSets};
 ghost use Rattle.segments.specs.Contract.{roomFits, Segments};
-ghost use Rattle.segments.specs.Steps.{Whole, Ready, Made};
+ghost use Rattle.segments.specs.Steps.{Ready, Made};
 use params::settings::RulingsParams;
 
 // The number of the first missed question, 0 where the page is accepted, and the number of rulings.
@@ -14,14 +11,6 @@ use params::settings::RulingsParams;
 pub struct Answer {
     pub number: u32,
     pub count: usize,
-}
-
-// round(setting * xheight), for a setting and an x-height that passed their questions.
-fn limit(setting: f64, xheight: f64) -> u32
-    requires { ⌜ Whole (roundedProduct setting xheight) ⌝ }
-    ensures { λ r. ⌜ r ≡ natAbs (roundedProduct setting xheight) ⌝ }
-{
-    math::rounding::rounded_product(setting, xheight) as u32
 }
 
 // The rulings of a page that passed its questions, and how many there are. Once the sets are listed, the parents hold their order.
@@ -123,8 +112,8 @@ pub fn segments(
     if number != 0 {
         return Answer { number, count: 0 };
     }
-    let across = limit(p.merge_across_xh, xheight);
-    let gap = limit(p.merge_gap_xh, xheight);
+    let across = params::pixels::limit_u32(p.merge_across_xh, xheight);
+    let gap = params::pixels::limit_u32(p.merge_gap_xh, xheight);
     let count = rulings(
         raster,
         w,

@@ -1,11 +1,11 @@
 // The closed sets of pieces, and their order.
 ghost use Prim.Native.Nat.{_≤_, _<_, _^_};
 ghost use lib.ListN.{length};
-ghost use Rattle.rects.specs.Rects.{count};
+ghost use Rattle.rects.specs.Rects.{count, AllInside};
 ghost use Rattle.sets.specs.Parents.{Room};
 ghost use Rattle.segments.specs.Rulings.{pieceSets};
 ghost use Rattle.pieces.specs.Steps.{AllOrdered};
-ghost use Rattle.segments.specs.Steps.{AllInside, Parts, SetsListed, SetsOrdered};
+ghost use Rattle.segments.specs.Steps.{Parts, SetsListed, SetsOrdered};
 
 // Lists the closed sets by smallest index, and returns how many there are. The parents and the work list are free afterwards.
 pub fn list_sets(

@@ -13,18 +13,10 @@ use Rattle.lists.specs.Lists.{below, keep, In}
 use Rattle.lists.proofs.Keep.{in-below, below-in, kept-in, in-kept, in-at, at-in, getD-map, keep-below-same, map-same}
 use Rattle.sets.specs.Closed.{Below, Touching, Ascending, Closed, Once, Listed}
 use Rattle.sets.specs.Joins.{Represents}
-use Rattle.sets.specs.Listing.{classOf, classes}
+use Rattle.sets.specs.Listing.{classOf, classes, classIn, classesIn}
 use Rattle.sets.proofs.Ascending.{ascending-below, ascending-keep, ascending-same, one-place}
 use Rattle.sets.proofs.Chains.{chain-step, chain-map, chain-carry, chain-inside}
 use Rattle.sets.proofs.Represents.{along}
-
--- The indexes below n that pass the test q and of which f is r, ascending.
-abbrev pub classIn : ℕ → (ℕ → Bool) → (ℕ → ℕ) → ℕ → List ℕ
-classIn n q f r = keep (λ i. q i && eqb (f i) r) (below n)
-
--- All indexes below n that pass the test, in sets of equal f, by smallest index.
-abbrev pub classesIn : ℕ → (ℕ → Bool) → (ℕ → ℕ) → List (List ℕ)
-classesIn n q f = map (classIn n q f) (keep (λ r. q r && eqb (f r) r) (below n))
 
 -- an index that stands in a list makes it longer than 0
 nonempty-in : (s : List ℕ) (i : ℕ) → In s i → 0 < length s

@@ -12,10 +12,10 @@ use borrow.Author.Tests.{lt-ltb, le-ltb, le-leb}
 use Rattle.lists.specs.Lists.{concat, written}
 use Rattle.lists.proofs.Written.{written-length, written-at}
 use Rattle.sets.specs.Closed.{Below, Listed}
-use Rattle.sets.specs.Listing.{closedSets, classes, endsFrom, startOf, membersOf, Listing}
+use Rattle.sets.specs.Listing.{closedSets, classes, classesIn, endsFrom, startOf, membersOf, Listing, ReadAs}
 use Rattle.sets.specs.Joins.{Joins}
 use Rattle.sets.specs.Parents.{Parents, root}
-use Rattle.sets.proofs.Classes.{classesIn, classes-listed, classes-listed-in}
+use Rattle.sets.proofs.Classes.{classes-listed, classes-listed-in}
 use Rattle.sets.proofs.Grown.{Holds, classes-closedSets}
 use Rattle.sets.proofs.Sizes.{classes-all, classes-count, classes-total, length-ends}
 use Rattle.sets.proofs.Roots.{root-le, root-root}
@@ -100,6 +100,10 @@ module _ (ss : List (List ℕ)) (m e : List ℕ) (room : length (concat ss) ≤ 
           ∙ ap₂ (λ (x y : ℕ). take x (drop y (written (concat ss) m))) size start
           ∙ part-at ss (drop (length (concat ss)) m) k h
       go (no h) = simp (le-ltb k (length ss) (omega arith)) (sym (List·getD-eq-default ss [] (omega arith)))
+
+  pub read-as : ReadAs ss (written (concat ss) m) (written (endsFrom 0 ss) e) (length ss)
+  read-as =
+      record { each = λ k h. members-listed k; none = λ k h. members-listed k ∙ List·getD-eq-default ss [] h }
 
 -- a listing that `list` made has n members in all, and each of its numbers gives its set back
 module _ {n : ℕ} {p : List ℕ} (P : Parents n p) where

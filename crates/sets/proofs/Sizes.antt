@@ -1,16 +1,24 @@
 -- The sets that are listed so far have together as many members as indexes with a smaller root: never more than n.
 use mathlib.Core.Path.{_≡_, refl, sym, ap, _∙_}
+use mathlib.Core.Bool.{Bool}
 use mathlib.Core.List.{List, [], _∷_, _++_, map, append-nil}
 use Prim.Native.Nat.{ℕ, zero, suc, _+_, _≤_, _<_}
 use native.Mathlib.Decide.{decLt, ℕ-discrete}
 use native.Mathlib.Omega.{arith}
 use lib.Dec.{eqb, ltb}
-use lib.ListN.{length, length-append, length-map}
+use lib.ListN.{length, getD, length-append, length-map}
 use borrow.Author.Tests.{eq-eqb, ne-eqb, lt-ltb, le-ltb}
-use Rattle.lists.specs.Lists.{below, keep, concat}
+use Rattle.lists.specs.Lists.{one, below, keep, concat}
 use Rattle.lists.proofs.Keep.{length-below, map-append, concat-append}
-use Rattle.lists.proofs.Sizes.{one, keep-size-le, keep-size-split, keep-one, keep-past, keep-none, keep-all}
-use Rattle.sets.specs.Listing.{classOf, classes, endsFrom}
+use Rattle.lists.proofs.Sizes.{keep-size-le, keep-size-split, keep-one, keep-past, keep-none, keep-all}
+use Rattle.sets.specs.Listing.{closedSet, closedSets, classOf, classes, endsFrom}
+
+-- there are no more closed sets than indexes
+pub sets-few : (n : ℕ) (touch : ℕ → ℕ → Bool) → length (closedSets n touch) ≤ n
+unfolding closedSets
+sets-few n touch =
+    let first : ℕ → Bool = λ i. eqb (getD (closedSet n touch i) 0 0) i in
+    omega (arith, length-map (keep first (below n)) (closedSet n touch), keep-size-le first (below n), length-below n)
 
 -- The classes with a root below m.
 unfoldable pub classesTo : ℕ → (ℕ → ℕ) → ℕ → List (List ℕ)
@@ -97,3 +105,13 @@ ends-one k [] s = ap (λ (e : ℕ). e ∷ []) (omega arith)
 ends-one k (t ∷ ss) s =
     ap (λ (w : List ℕ). (k + length t) ∷ w)
     (ends-one (k + length t) ss s ∙ ap (λ (e : ℕ). endsFrom (k + length t) ss ++ (e ∷ [])) (omega (arith, length-append t (concat ss))))
+
+-- sets that are each exchanged for one of the same length have the same ends and as many members
+module _ (f : List ℕ → List ℕ) (same : (s : List ℕ) → length (f s) ≡ length s) where
+  pub ends-exchanged : (k : ℕ) (ss : List (List ℕ)) → endsFrom k (map f ss) ≡ endsFrom k ss
+  ends-exchanged k [] = refl
+  ends-exchanged k (s ∷ ss) = rw (same s) (ap (λ (t : List ℕ). (k + length s) ∷ t) (ends-exchanged (k + length s) ss))
+
+  pub total-exchanged : (ss : List (List ℕ)) → length (concat (map f ss)) ≡ length (concat ss)
+  total-exchanged [] = refl
+  total-exchanged (s ∷ ss) = omega (arith, length-append (f s) (concat (map f ss)), length-append s (concat ss), same s, total-exchanged ss)

@@ -2,7 +2,7 @@
 use mathlib.Core.Path.{_≡_}
 use mathlib.Core.Bool.{Bool, false, cond, _&&_, _||_}
 use mathlib.Core.List.{List, [], _∷_, map}
-use Prim.Native.Nat.{ℕ, zero, suc, _+_, _-_}
+use Prim.Native.Nat.{ℕ, zero, suc, _+_, _-_, _≤_, _<_}
 use lib.Dec.{eqb, leb, ltb}
 use lib.ListN.{length, getD, take, drop}
 use Rattle.lists.specs.Lists.{below, keep, any, concat, written}
@@ -27,6 +27,15 @@ unfoldable pub closedSets : ℕ → (ℕ → ℕ → Bool) → List (List ℕ)
 unfolding closedSet
 closedSets n touch = map (closedSet n touch) (keep (λ i. eqb (getD (closedSet n touch i) 0 0) i) (below n))
 
+-- Touching inside a domain that a test decides: an index outside it touches none.
+abbrev pub touchIn : (ℕ → Bool) → (ℕ → ℕ → Bool) → ℕ → ℕ → Bool
+touchIn q touch i j = q i && q j && touch i j
+
+-- The closed sets over the indexes below n that pass a test, by smallest index (`closedSetsIn-listed` is the law).
+unfoldable pub closedSetsIn : ℕ → (ℕ → Bool) → (ℕ → ℕ → Bool) → List (List ℕ)
+closedSetsIn n q touch =
+    let ss = closedSets n (touchIn q touch) in map (λ k. getD ss k []) (keep (λ k. q (getD (getD ss k []) 0 0)) (below (length ss)))
+
 -- The indexes below n of which f is r, ascending.
 abbrev pub classOf : ℕ → (ℕ → ℕ) → ℕ → List ℕ
 classOf n f r = keep (λ i. eqb (f i) r) (below n)
@@ -34,6 +43,13 @@ classOf n f r = keep (λ i. eqb (f i) r) (below n)
 -- The indexes below n in sets of equal f, by smallest index, where f gives each the smallest of its set.
 abbrev pub classes : ℕ → (ℕ → ℕ) → List (List ℕ)
 classes n f = map (classOf n f) (keep (λ r. eqb (f r) r) (below n))
+
+-- The same over the indexes below n that pass a test.
+abbrev pub classIn : ℕ → (ℕ → Bool) → (ℕ → ℕ) → ℕ → List ℕ
+classIn n q f r = keep (λ i. q i && eqb (f i) r) (below n)
+
+abbrev pub classesIn : ℕ → (ℕ → Bool) → (ℕ → ℕ) → List (List ℕ)
+classesIn n q f = map (classIn n q f) (keep (λ r. q r && eqb (f r) r) (below n))
 
 -- The end of each set, where the sets are strung together from place k on.
 abbrev pub endsFrom : ℕ → List (List ℕ) → List ℕ
@@ -66,3 +82,8 @@ abbrev pub membersOf : List ℕ → List ℕ → ℕ → ℕ → List ℕ
 membersOf members ends count k =
     cond (ltb k count && ltb k (length ends) && leb (startOf ends k) (getD ends k 0) && leb (getD ends k 0) (length members))
     (take (getD ends k 0 - startOf ends k) (drop (startOf ends k) members)) []
+
+-- The sets as they are read from the lent lists: each number below the count gives its set, and any other number the empty part.
+pub record ReadAs (ss : List (List ℕ)) (members ends : List ℕ) (count : ℕ) : Type 0 where
+  pub each : (k : ℕ) → k < count → membersOf members ends count k ≡ getD ss k []
+  pub none : (k : ℕ) → count ≤ k → membersOf members ends count k ≡ []

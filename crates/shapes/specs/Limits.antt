@@ -1,7 +1,6 @@
 -- The limits of `tables`: J, the line limit and the set minima.
-use lib.IntN.{natAbs}
 use lib.Ieee.{Float}
-use Rattle.math.specs.Rounding.{roundedProduct}
+use Rattle.params.specs.Limits.{joinLimit, lineLimit}
 use Rattle.params.specs.declared.settings.RulingsParams.{RulingsParams}
 use Rattle.shapes.specs.declared.limits.Limits.{Limits}
 
@@ -9,8 +8,8 @@ use Rattle.shapes.specs.declared.limits.Limits.{Limits}
 abbrev pub limitsOf : RulingsParams → Float → Limits
 limitsOf p xheight =
     record {
-      join = natAbs (roundedProduct (p .«join_tol_xh») xheight);
-      cluster = natAbs (roundedProduct (p .«line_cluster_xh») xheight);
+      join = joinLimit p xheight;
+      cluster = lineLimit p xheight;
       «min_horizontal» = p .«table_min_horizontal»;
       «min_vertical» = p .«table_min_vertical»;
     }

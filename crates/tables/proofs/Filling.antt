@@ -1,18 +1,16 @@
 -- From the listing to the answers: the member list gives each closed set back, so what the passes leave is what the definitions say.
 use mathlib.Core.Path.{_≡_, sym, ap, _∙_, subst}
-use mathlib.Core.Bool.{Bool}
 use mathlib.Core.List.{List, [], map}
 use Prim.Native.Nat.{ℕ, _≤_, _<_}
 use native.Mathlib.Omega.{arith}
-use lib.Dec.{eqb}
-use lib.ListN.{length, getD, take, length-map}
-use lib.Seq.{ext-getD, take-at, getD-take}
-use Rattle.lists.specs.Lists.{below, keep}
-use Rattle.lists.proofs.Keep.{length-below, in-below, below-in, kept-in, at-in, getD-values, length-values}
-use Rattle.lists.proofs.Sizes.{keep-size-le}
-use Rattle.sets.specs.Listing.{closedSet, closedSets, membersOf}
+use lib.ListN.{length, getD, take, List·getD-eq-default}
+use lib.Seq.{take-at, getD-take}
+use Rattle.lists.specs.Lists.{below}
+use Rattle.lists.proofs.Keep.{length-below, in-below, below-in, kept-in, at-in, by-place}
+use Rattle.sets.specs.Listing.{membersOf, ReadAs}
 use Rattle.sets.proofs.Ascending.{ascending-below, sublist}
 use Rattle.sets.proofs.Listings.{members-listed}
+use Rattle.sets.proofs.Sizes.{sets-few}
 use Rattle.sets.proofs.Grown.{closedSets-listed}
 use Rattle.meeting.specs.declared.segment.Segment.{Segment}
 use Rattle.shapes.specs.declared.limits.Limits.{Limits}
@@ -22,21 +20,8 @@ use Rattle.shapes.specs.Shapes.{isTable}
 use Rattle.table_lists.specs.Answers.{tableNumbers}
 use Rattle.meeting.specs.Steps.{Inside, Connected}
 use Rattle.table_lists.specs.Steps.{SetsIn, Numbers, Chose, Described}
-use Rattle.tables.specs.Call.{setAt, Lent, Filled}
+use Rattle.tables.specs.Call.{setAt, Lists, Filled}
 use Rattle.table_lists.proofs.Passes.{tables-few}
-
--- there are no more closed sets than indexes
-sets-few : (n : ℕ) (t : ℕ → ℕ → Bool) → length (closedSets n t) ≤ n
-unfolding closedSets
-sets-few n t =
-    let firsts = keep (λ i. eqb (getD (closedSet n t i) 0 0) i) (below n) in
-    omega (arith, length-map firsts (closedSet n t), keep-size-le (λ i. eqb (getD (closedSet n t i) 0 0) i) (below n), length-below n)
-
--- the sets of a list, by number
-by-number : (ss : List (List ℕ)) → map (λ k. getD ss k []) (below (length ss)) ≡ ss
-by-number ss =
-    ext-getD [] (map (λ k. getD ss k []) (below (length ss))) ss (length-values (λ k. getD ss k []) (length ss))
-    (λ i h. getD-values (λ k. getD ss k []) (length ss) i [] (rw (length-values (λ k. getD ss k []) (length ss)) at h))
 
 module _ (join : ℕ) (s : ℕ → Segment) (n : ℕ) {m e m′ e′ : List ℕ} {r : ℕ} (C : Connected join s n m e m′ e′ r) (room : n ≤ length m) (wide : n ≤ length e) where
   abbrev ss : List (List ℕ)
@@ -50,6 +35,9 @@ module _ (join : ℕ) (s : ℕ → Segment) (n : ℕ) {m e m′ e′ : List ℕ}
 
   pub set-is : membersOf m′ e′ r ≡ (λ k. getD ss k [])
   set-is = λ i k. each k i
+
+  pub read : ReadAs ss m′ e′ r
+  read = record { each = λ k h. each k; none = λ k h. each k ∙ List·getD-eq-default ss [] (rw (C .count) at h) }
 
   inside : (k : ℕ) → k < length ss → Inside n (getD ss k [])
   inside k h =
@@ -66,7 +54,7 @@ module _ (join : ℕ) (s : ℕ → Segment) (n : ℕ) {m e m′ e′ : List ℕ}
         few = sets-few n (touch join s);
         inside = inside;
         some = λ k h. closedSets-listed n (touch join s) .closed k h .nonempty;
-        total = rw (by-number ss) (C .total);
+        total = rw (by-place ss []) (C .total);
       })
 
 -- the numbers of the tables, as they stand in front of their list
@@ -89,16 +77,16 @@ module _ {lim : Limits} {s : ℕ → Segment} {f : ℕ → List ℕ} {count : �
             rw same (below-in count _ (kept-in (λ j. isTable lim s (f j)) (below count) _ (at-in (tableNumbers lim s f count) k l) .0));
       }
 
-module _ (rects directions chosen : List ℕ) (lim : Limits) (l l′ : Lent) where
+module _ (rects directions chosen : List ℕ) (lim : Limits) (l l′ : Lists) where
   abbrev s : ℕ → Segment
   s = rulingAt rects directions chosen
 
   pub filled : {r t a : ℕ} {f : ℕ → List ℕ} → Connected (lim .join) s (length chosen) (l .members) (l .ends) (l′ .members) (l′ .ends) r
-      → f ≡ setAt rects directions chosen lim
+      → f ≡ setAt rects directions chosen lim → ReadAs (rulingSets (lim .join) s (length chosen)) (l′ .members) (l′ .ends) r
       → Chose lim s f r (l .numbers) (l .rows) (l .columns) (l .free) (l′ .numbers) (l′ .rows) (l′ .columns) (l′ .free) t a
       → Described (lim .join) rects directions chosen f (take t (l′ .numbers)) (l .bounds) (l .rulings) (l .shares) (l′ .bounds) (l′ .rulings) (l′ .shares)
       → Filled rects directions chosen lim l l′ r t a
-  filled {r} {t} {a} {f} C ef H D =
+  filled {r} {t} {a} {f} C ef B H D =
       let n = length (rulingSets (lim .join) s (length chosen)) in
       let H₁ : Chose lim s f n (l .numbers) (l .rows) (l .columns) (l .free) (l′ .numbers) (l′ .rows) (l′ .columns) (l′ .free) t a =
       subst (λ (c : ℕ). Chose lim s f c (l .numbers) (l .rows) (l .columns) (l .free) (l′ .numbers) (l′ .rows) (l′ .columns) (l′ .free) t a) (C .count) H in
@@ -118,4 +106,5 @@ module _ (rects directions chosen : List ℕ) (lim : Limits) (l l′ : Lent) whe
         rulings = D₂ .measured .rulings;
         shares = D₂ .measured .shares;
         free = H₂ .free-list;
+        read = B;
       }

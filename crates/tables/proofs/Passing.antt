@@ -1,19 +1,18 @@
 -- What is known once the guard gives 0.
 use mathlib.Core.Path.{_≡_}
 use mathlib.Core.Bool.{Bool, true, _&&_}
-use mathlib.Core.List.{List}
-use Prim.Native.Nat.{ℕ, zero, suc, _+_, _*_, _/_, _%_, _≤_, _<_}
+use mathlib.Core.List.{List, [], _∷_}
+use Prim.Native.Nat.{ℕ, _/_, _≤_, _<_}
 use native.Mathlib.Omega.{arith}
-use native.Mathlib.Decide.{decLt}
 use lib.Dec.{eqb, leb}
 use lib.Ieee.{Float}
-use lib.ListN.{length, getD, List·getD-eq-default}
+use lib.ListN.{length, getD}
 use borrow.Author.Tests.{eqb-true, leb-true}
 use Rattle.lists.specs.Lists.{below, everyBelow}
 use Rattle.lists.proofs.Every.{and-first, and-second}
 use Rattle.lists.proofs.Keep.{length-below, getD-below}
 use Rattle.questions.specs.Questions.{firstMissed}
-use Rattle.questions.proofs.FirstMissed.{all-yes, none-missed}
+use Rattle.questions.proofs.FirstMissed.{all-yes, none-missed, yes-parts}
 use Rattle.params.specs.declared.settings.RulingsParams.{RulingsParams}
 use Rattle.params.specs.Scan.{xheightQuestions}
 use Rattle.params.specs.Settings.{settingsQuestions}
@@ -39,12 +38,15 @@ six {a} {b} {c} {d} {e} {f} h =
       and-second (a && b && c && d && e) f h,
     )
 
-room-says : (n : ℕ) (l : Lent) → hasRoom n l ≡ true → Roomy n l × (n ≤ length (l .chosen))
-room-says n l h =
-    let t = six (and-first (roomForTables n (length (l .numbers)) (count (l .bounds)) (length (l .rows)) (length (l .columns)) (length (l .rulings)) (length (l .shares))) (roomForIndexes n (length (l .members)) (length (l .ends)) (length (l .free)) (length (l .chosen)) (length (l .parents)) (length (l .work)) (length (l .keys))) h) in
-    let i = and-second (roomForTables n (length (l .numbers)) (count (l .bounds)) (length (l .rows)) (length (l .columns)) (length (l .rulings)) (length (l .shares))) (roomForIndexes n (length (l .members)) (length (l .ends)) (length (l .free)) (length (l .chosen)) (length (l .parents)) (length (l .work)) (length (l .keys))) h in
-    let k = and-second (leb n (length (l .members)) && leb n (length (l .ends)) && leb n (length (l .free)) && leb n (length (l .chosen)) && leb n (length (l .parents)) && leb n (length (l .work))) (leb n (length (l .keys))) i in
-    let j = six (and-first (leb n (length (l .members)) && leb n (length (l .ends)) && leb n (length (l .free)) && leb n (length (l .chosen)) && leb n (length (l .parents)) && leb n (length (l .work))) (leb n (length (l .keys))) i) in
+room-says : (n : ℕ) (lent : Lent) → hasRoom n lent ≡ true → Roomy n (lent .lists) × (n ≤ length (lent .chosen))
+room-says n lent h =
+    let l = lent .lists in
+    let tables = roomForTables n (length (l .numbers)) (count (l .bounds)) (length (l .rows)) (length (l .columns)) (length (l .rulings)) (length (l .shares)) in
+    let indexes = roomForIndexes n (length (l .members)) (length (l .ends)) (length (l .free)) (length (lent .chosen)) (length (l .parents)) (length (l .work)) (length (l .keys)) in
+    let first = leb n (length (l .members)) && leb n (length (l .ends)) && leb n (length (l .free)) && leb n (length (lent .chosen)) && leb n (length (l .parents)) && leb n (length (l .work)) in
+    let i = and-second tables indexes h in
+    let t = six (and-first tables indexes h) in
+    let j = six (and-first first (leb n (length (l .keys))) i) in
     let b : n ≤ length (l .bounds) / 4 = leb-true _ _ (t .1) in (
       record {
         members = leb-true _ _ (j .0);
@@ -58,25 +60,10 @@ room-says n l h =
         free = leb-true _ _ (j .2);
         parents = leb-true _ _ (j .4);
         work = leb-true _ _ (j .5);
-        keys = leb-true _ _ k;
+        keys = leb-true _ _ (and-second first (leb n (length (l .keys))) i);
       },
       leb-true _ _ (j .3),
     )
-
--- every coordinate of rectangles inside is below the side
-small : (rects : List ℕ) → length rects ≡ 4 * count rects → allInside 8192 8192 rects ≡ true → (k : ℕ) → getD rects k 0 < 8192
-small rects e h k = go (decLt k (length rects))
-  where
-    part : (r : ℕ) → r < 4 → k ≡ 4 * (k / 4) + r → k / 4 < count rects → getD rects k 0 < 8192
-    part zero l f b = let i = all-inside-says 8192 8192 rects h (k / 4) b in let g : k ≡ 4 * (k / 4) = omega arith in rw g (omega (arith, i .wide, i .right))
-    part (suc zero) l f b = let i = all-inside-says 8192 8192 rects h (k / 4) b in rw f (omega (arith, i .high, i .bottom))
-    part (suc (suc zero)) l f b = let i = all-inside-says 8192 8192 rects h (k / 4) b in rw f (omega (arith, i .right))
-    part (suc (suc (suc zero))) l f b = let i = all-inside-says 8192 8192 rects h (k / 4) b in rw f (omega (arith, i .bottom))
-    part (suc (suc (suc (suc r)))) l f b = absurd (omega arith)
-
-    go : Dec (k < length rects) → getD rects k 0 < 8192
-    go (yes l) = part (k % 4) (omega arith) (omega arith) (omega arith)
-    go (no l) = rw (List·getD-eq-default rects 0 {n = k} (omega arith)) (omega arith)
 
 given-says : (rects directions : List ℕ) → countFits 4096 rects && directionsFit rects directions ≡ true → allInside 8192 8192 rects ≡ true
     → Given rects directions (below (count rects))
@@ -85,7 +72,7 @@ given-says rects directions g h =
     let d = and-second (countFits 4096 rects) (directionsFit rects directions) g in
     let e = eqb-true (length directions) (count rects) (and-first (eqb (length directions) (count rects)) (everyBelow (length directions) (λ k. leb (getD directions k 0) 1)) d) in
     record {
-      small = small rects (c .0) h;
+      inside = λ i l. let k : i < count rects = rw (length-below (count rects)) at l in rw (getD-below (count rects) i k) (all-inside-says 8192 8192 rects h i k);
       rect = λ i l. let k : i < count rects = rw (length-below (count rects)) at l in rw (getD-below (count rects) i k) (has-numbers (length rects) i k);
       direction = λ i l. let k : i < count rects = rw (length-below (count rects)) at l in rw (getD-below (count rects) i k, e) k;
       few = rw (length-below (count rects)) (c .1);
@@ -95,7 +82,7 @@ given-says rects directions g h =
 pub record Passed (xheight : Float) (p : RulingsParams) (rects directions : List ℕ) (l : Lent) : Type 0 where
   pub given : Given rects directions (below (count rects))
   pub settled : Settled p xheight
-  pub roomy : Roomy (count rects) l
+  pub roomy : Roomy (count rects) (l .lists)
   pub chosen : count rects ≤ length (l .chosen)
   pub few : count rects ≤ 4096
 
@@ -106,7 +93,7 @@ passed xheight p rects directions l h =
     let r = room-says (count rects) l (y .1 .1 .1 .1 .1 .1 .1 .1 .1 .0) in
     record {
       given = given-says rects directions (y .1 .0) (y .1 .1 .0);
-      settled = record { settings = none-missed (settingsQuestions p) (y .1 .1 .1 .0, (y .1 .1 .1 .1 .0, (y .1 .1 .1 .1 .1 .0, (y .1 .1 .1 .1 .1 .1 .0, (y .1 .1 .1 .1 .1 .1 .1 .0, (y .1 .1 .1 .1 .1 .1 .1 .1 .0, tt)))))); xheight-passed = none-missed (xheightQuestions xheight) (y .0, tt) };
+      settled = record { settings = none-missed (settingsQuestions p) (yes-parts (settingsQuestions p) ((14, hasRoom (count rects) l) ∷ []) (y .1 .1 .1) .0); xheight-passed = none-missed (xheightQuestions xheight) (y .0, tt) };
       roomy = r .0;
       chosen = r .1;
       few = count-says 4096 rects (and-first (countFits 4096 rects) (directionsFit rects directions) (y .1 .0)) .1;

@@ -4,16 +4,14 @@ use mathlib.Core.Bool.{Bool, true, cond, not, _&&_}
 use mathlib.Core.List.{List, [], map}
 use Prim.Native.Nat.{ℕ, _*_, _≤_, _<_}
 use lib.Dec.{eqb}
-use lib.IntN.{pos}
 use lib.Ieee.{Float}
 use lib.ListN.{length, getD}
 use Rattle.lists.specs.Lists.{below, concat, written}
 use Rattle.sets.specs.Closed.{Below, Listed, ListedWhere}
-use Rattle.sets.specs.Listing.{endsFrom}
+use Rattle.sets.specs.Listing.{endsFrom, ReadAs}
 use Rattle.questions.specs.Questions.{firstMissed}
-use Rattle.math.specs.Rounding.{roundedProduct}
 use Rattle.params.specs.declared.settings.RulingsParams.{RulingsParams}
-use Rattle.params.specs.Settled.{Settled}
+use Rattle.params.specs.Limits.{IsLimit}
 use Rattle.rects.specs.Rects.{count}
 use Rattle.rects.specs.Around.{around, Smallest}
 use Rattle.shapes.specs.declared.limits.Limits.{Limits}
@@ -69,8 +67,8 @@ module _ (rects directions chosen : List ℕ) (lim : Limits) where
         (map setAt (freeNumbers lim (rulingAt rects directions chosen) setAt (length allSets)))
     pub smallest : (k : ℕ) → k < length allSets → Smallest rects (placesOf chosen (setAt k)) (around rects (placesOf chosen (setAt k)))
 
--- The content of the lists that are lent: answers, then work lists.
-pub record Lent : Type 0 where
+-- The content of the lists that the core is lent: answers, then work lists.
+pub record Lists : Type 0 where
   pub members : List ℕ
   pub ends : List ℕ
   pub numbers : List ℕ
@@ -80,16 +78,21 @@ pub record Lent : Type 0 where
   pub rulings : List ℕ
   pub shares : List Float
   pub free : List ℕ
-  pub chosen : List ℕ
   pub parents : List ℕ
   pub work : List ℕ
   pub keys : List ℕ
 
+-- What the call is lent: these, and a work list for the places of all rulings.
+pub record Lent : Type 0 where
+  pub lists : Lists
+  pub chosen : List ℕ
+
 -- Every list has room for n rulings or as many tables.
 abbrev pub hasRoom : ℕ → Lent → Bool
-hasRoom n l =
+hasRoom n lent =
+    let l = lent .lists in
     roomForTables n (length (l .numbers)) (count (l .bounds)) (length (l .rows)) (length (l .columns)) (length (l .rulings)) (length (l .shares))
-    && roomForIndexes n (length (l .members)) (length (l .ends)) (length (l .free)) (length (l .chosen)) (length (l .parents)) (length (l .work)) (length (l .keys))
+    && roomForIndexes n (length (l .members)) (length (l .ends)) (length (l .free)) (length (lent .chosen)) (length (l .parents)) (length (l .work)) (length (l .keys))
 
 -- The number of the first missed question, 0 for none.
 abbrev pub missedBy : Float → RulingsParams → List ℕ → List ℕ → Lent → ℕ
@@ -99,8 +102,8 @@ missedBy xheight p rects directions l = firstMissed (tableQuestions xheight p re
 abbrev pub answered : {A : Type 0} → ℕ → List A → List A → List A
 answered q xs lent = cond (eqb q 0) (written xs lent) lent
 
--- What `core` leaves of the answers, and their counts.
-pub record Filled (rects directions chosen : List ℕ) (lim : Limits) (l l′ : Lent) (ss ts fs : ℕ) : Type 0 where
+-- What `core` leaves of the answers, and their counts; the lists give each set back.
+pub record Filled (rects directions chosen : List ℕ) (lim : Limits) (l l′ : Lists) (ss ts fs : ℕ) : Type 0 where
   pub set-count : ss ≡ length (allSets rects directions chosen lim)
   pub table-count : ts ≡ length (tables rects directions chosen lim)
   pub free-count : fs ≡ length (free rects directions chosen lim)
@@ -113,9 +116,10 @@ pub record Filled (rects directions chosen : List ℕ) (lim : Limits) (l l′ : 
   pub rulings : l′ .rulings ≡ written (rulings rects directions chosen lim) (l .rulings)
   pub shares : l′ .shares ≡ written (shares rects directions chosen lim) (l .shares)
   pub free : l′ .free ≡ written (free rects directions chosen lim) (l .free)
+  pub read : ReadAs (allSets rects directions chosen lim) (l′ .members) (l′ .ends) ss
 
 -- Every list has room for n rulings or as many tables: what question 14 shows.
-pub record Roomy (n : ℕ) (l : Lent) : Type 0 where
+pub record Roomy (n : ℕ) (l : Lists) : Type 0 where
   pub members : n ≤ length (l .members)
   pub ends : n ≤ length (l .ends)
   pub numbers : n ≤ length (l .numbers)
@@ -129,27 +133,29 @@ pub record Roomy (n : ℕ) (l : Lent) : Type 0 where
   pub work : n ≤ length (l .work)
   pub keys : n ≤ length (l .keys)
 
--- What `tables` leaves, as q is the number of the first missed question: an accepted page's answers, and demand 3; a refused page leaves every list.
-pub record Tables (xheight : Float) (p : RulingsParams) (rects directions : List ℕ) (q : ℕ) (l l′ : Lent) (number ss ts fs : ℕ) : Type 0 where
-  pub missed : number ≡ q
+-- What `tables` leaves: the number of the first missed question; an accepted page's answers; a refused page leaves every list; and demand 3.
+pub record Tables (xheight : Float) (p : RulingsParams) (rects directions : List ℕ) (l l′ : Lent) (q ss ts fs : ℕ) : Type 0 where
+  pub number : q ≡ missedBy xheight p rects directions l
   pub set-count : ss ≡ cond (eqb q 0) (length (allSets rects directions (below (count rects)) (limitsOf p xheight))) 0
   pub table-count : ts ≡ cond (eqb q 0) (length (tables rects directions (below (count rects)) (limitsOf p xheight))) 0
   pub free-count : fs ≡ cond (eqb q 0) (length (free rects directions (below (count rects)) (limitsOf p xheight))) 0
-  pub members : l′ .members ≡ answered q (concat (allSets rects directions (below (count rects)) (limitsOf p xheight))) (l .members)
-  pub ends : l′ .ends ≡ answered q (endsFrom 0 (allSets rects directions (below (count rects)) (limitsOf p xheight))) (l .ends)
-  pub numbers : l′ .numbers ≡ answered q (tables rects directions (below (count rects)) (limitsOf p xheight)) (l .numbers)
-  pub bounds : l′ .bounds ≡ answered q (bounds rects directions (below (count rects)) (limitsOf p xheight)) (l .bounds)
-  pub rows : l′ .rows ≡ answered q (rows rects directions (below (count rects)) (limitsOf p xheight)) (l .rows)
-  pub columns : l′ .columns ≡ answered q (columns rects directions (below (count rects)) (limitsOf p xheight)) (l .columns)
-  pub rulings : l′ .rulings ≡ answered q (rulings rects directions (below (count rects)) (limitsOf p xheight)) (l .rulings)
-  pub shares : l′ .shares ≡ answered q (shares rects directions (below (count rects)) (limitsOf p xheight)) (l .shares)
-  pub free-list : l′ .free ≡ answered q (free rects directions (below (count rects)) (limitsOf p xheight)) (l .free)
+  pub members : l′ .lists .members ≡ answered q (concat (allSets rects directions (below (count rects)) (limitsOf p xheight))) (l .lists .members)
+  pub ends : l′ .lists .ends ≡ answered q (endsFrom 0 (allSets rects directions (below (count rects)) (limitsOf p xheight))) (l .lists .ends)
+  pub numbers : l′ .lists .numbers ≡ answered q (tables rects directions (below (count rects)) (limitsOf p xheight)) (l .lists .numbers)
+  pub bounds : l′ .lists .bounds ≡ answered q (bounds rects directions (below (count rects)) (limitsOf p xheight)) (l .lists .bounds)
+  pub rows : l′ .lists .rows ≡ answered q (rows rects directions (below (count rects)) (limitsOf p xheight)) (l .lists .rows)
+  pub columns : l′ .lists .columns ≡ answered q (columns rects directions (below (count rects)) (limitsOf p xheight)) (l .lists .columns)
+  pub rulings : l′ .lists .rulings ≡ answered q (rulings rects directions (below (count rects)) (limitsOf p xheight)) (l .lists .rulings)
+  pub shares : l′ .lists .shares ≡ answered q (shares rects directions (below (count rects)) (limitsOf p xheight)) (l .lists .shares)
+  pub free-list : l′ .lists .free ≡ answered q (free rects directions (below (count rects)) (limitsOf p xheight)) (l .lists .free)
   -- a refused call leaves the work lists too
   pub chosen-kept : (q ≡ 0 → ⊥) → l′ .chosen ≡ l .chosen
-  pub parents-kept : (q ≡ 0 → ⊥) → l′ .parents ≡ l .parents
-  pub work-kept : (q ≡ 0 → ⊥) → l′ .work ≡ l .work
-  pub keys-kept : (q ≡ 0 → ⊥) → l′ .keys ≡ l .keys
+  pub parents-kept : (q ≡ 0 → ⊥) → l′ .lists .parents ≡ l .lists .parents
+  pub work-kept : (q ≡ 0 → ⊥) → l′ .lists .work ≡ l .lists .work
+  pub keys-kept : (q ≡ 0 → ⊥) → l′ .lists .keys ≡ l .lists .keys
   -- the limits are the rounded products, not below 0
-  pub join-limit : Settled p xheight → roundedProduct (p .«join_tol_xh») xheight ≡ pos (limitsOf p xheight .join)
-  pub line-limit : Settled p xheight → roundedProduct (p .«line_cluster_xh») xheight ≡ pos (limitsOf p xheight .cluster)
+  pub join-limit : q ≡ 0 → IsLimit (p .«join_tol_xh») xheight
+  pub line-limit : q ≡ 0 → IsLimit (p .«line_cluster_xh») xheight
+  -- the lists give each set back
+  pub read : q ≡ 0 → ReadAs (allSets rects directions (below (count rects)) (limitsOf p xheight)) (l′ .lists .members) (l′ .lists .ends) ss
   pub demand3 : Demand3 rects directions (below (count rects)) (limitsOf p xheight)

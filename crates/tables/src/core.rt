@@ -83,10 +83,49 @@ pub fn find(
     keys: &mut [u64],
 ) -> Counts
     requires { ⌜ (limits .join < 2 ^ 32) × Given (now rects) (now directions) (now chosen) ⌝ }
-    requires { ⌜ Roomy (length (now chosen)) (record { members = now members; ends = now ends; numbers = now numbers; bounds = now bounds; rows = now rows; columns = now columns; rulings = now rulings; shares = now shares; free = now free; chosen = now chosen; parents = now parents; work = now work; keys = now keys }) ⌝ }
+    requires { ⌜ Roomy (length (now chosen)) (record {
+      members = now members;
+      ends = now ends;
+      numbers = now numbers;
+      bounds = now bounds;
+      rows = now rows;
+      columns = now columns;
+      rulings = now rulings;
+      shares = now shares;
+      free = now free;
+      parents = now parents;
+      work = now work;
+      keys = now keys;
+    }) ⌝ }
     ensures { λ r. ⌜ Filled (now (rects .entry)) (now (directions .entry)) (now (chosen .entry)) limits
-        (record { members = now (members .entry); ends = now (ends .entry); numbers = now (numbers .entry); bounds = now (bounds .entry); rows = now (rows .entry); columns = now (columns .entry); rulings = now (rulings .entry); shares = now (shares .entry); free = now (free .entry); chosen = now (chosen .entry); parents = now (parents .entry); work = now (work .entry); keys = now (keys .entry) })
-        (record { members = now (members .exit); ends = now (ends .exit); numbers = now (numbers .exit); bounds = now (bounds .exit); rows = now (rows .exit); columns = now (columns .exit); rulings = now (rulings .exit); shares = now (shares .exit); free = now (free .exit); chosen = now (chosen .entry); parents = now (parents .exit); work = now (work .exit); keys = now (keys .exit) })
+        (record {
+          members = now (members .entry);
+          ends = now (ends .entry);
+          numbers = now (numbers .entry);
+          bounds = now (bounds .entry);
+          rows = now (rows .entry);
+          columns = now (columns .entry);
+          rulings = now (rulings .entry);
+          shares = now (shares .entry);
+          free = now (free .entry);
+          parents = now (parents .entry);
+          work = now (work .entry);
+          keys = now (keys .entry);
+        })
+        (record {
+          members = now (members .exit);
+          ends = now (ends .exit);
+          numbers = now (numbers .exit);
+          bounds = now (bounds .exit);
+          rows = now (rows .exit);
+          columns = now (columns .exit);
+          rulings = now (rulings .exit);
+          shares = now (shares .exit);
+          free = now (free .exit);
+          parents = now (parents .exit);
+          work = now (work .exit);
+          keys = now (keys .exit);
+        })
         (r .sets) (r .tables) (r .free) ⌝ }
 {
     let sets = connect::connect(

@@ -1,7 +1,7 @@
 // Tables: connected sets of horizontal and vertical rulings with enough of each; the other rulings are free.
 pub mod core;
 
-ghost use Rattle.tables.specs.Call.{Tables, missedBy};
+ghost use Rattle.tables.specs.Call.{Tables};
 use params::settings::RulingsParams;
 use table_questions::guard;
 
@@ -35,9 +35,40 @@ pub fn tables(
     keys: &mut [u64],
 ) -> Answer
     ensures { λ r. ⌜ Tables xheight p (now (rects .entry)) (now (directions .entry))
-        (missedBy xheight p (now (rects .entry)) (now (directions .entry)) (record { members = now (members .entry); ends = now (ends .entry); numbers = now (numbers .entry); bounds = now (bounds .entry); rows = now (rows .entry); columns = now (columns .entry); rulings = now (rulings .entry); shares = now (shares .entry); free = now (free .entry); chosen = now (chosen .entry); parents = now (parents .entry); work = now (work .entry); keys = now (keys .entry) }))
-        (record { members = now (members .entry); ends = now (ends .entry); numbers = now (numbers .entry); bounds = now (bounds .entry); rows = now (rows .entry); columns = now (columns .entry); rulings = now (rulings .entry); shares = now (shares .entry); free = now (free .entry); chosen = now (chosen .entry); parents = now (parents .entry); work = now (work .entry); keys = now (keys .entry) })
-        (record { members = now (members .exit); ends = now (ends .exit); numbers = now (numbers .exit); bounds = now (bounds .exit); rows = now (rows .exit); columns = now (columns .exit); rulings = now (rulings .exit); shares = now (shares .exit); free = now (free .exit); chosen = now (chosen .exit); parents = now (parents .exit); work = now (work .exit); keys = now (keys .exit) })
+        (record {
+          lists = record {
+            members = now (members .entry);
+            ends = now (ends .entry);
+            numbers = now (numbers .entry);
+            bounds = now (bounds .entry);
+            rows = now (rows .entry);
+            columns = now (columns .entry);
+            rulings = now (rulings .entry);
+            shares = now (shares .entry);
+            free = now (free .entry);
+            parents = now (parents .entry);
+            work = now (work .entry);
+            keys = now (keys .entry);
+          };
+          chosen = now (chosen .entry);
+        })
+        (record {
+          lists = record {
+            members = now (members .exit);
+            ends = now (ends .exit);
+            numbers = now (numbers .exit);
+            bounds = now (bounds .exit);
+            rows = now (rows .exit);
+            columns = now (columns .exit);
+            rulings = now (rulings .exit);
+            shares = now (shares .exit);
+            free = now (free .exit);
+            parents = now (parents .exit);
+            work = now (work .exit);
+            keys = now (keys .exit);
+          };
+          chosen = now (chosen .exit);
+        })
         (r .number) (r .sets) (r .tables) (r .free) ⌝ }
 {
     let n = rects.len() / 4;

@@ -1,7 +1,7 @@
 -- `boxes::boxes` meets its contract: the guard gives the number, and the core the lists where it is 0. Assumes nothing.
 use borrow.Author.Needs.{needs}
 use mathlib.Core.Path.{_≡_, sym, _∙_}
-use Rattle.boxes.proofs.Accepted.{ready}
+use Rattle.boxes.proofs.Accepted.{accepted-ready}
 use Rattle.boxes.proofs.Call.{accepted, refused}
 use Rattle.boxes.proofs.boxes.Statement.{statement}
 use Rattle.boxes.proofs.boxes.Tie as tie
@@ -18,7 +18,7 @@ limits-of-requires c κs = search needs
 find-requires : tie.Need-find-requires
 find-requires c κs =
     let a = c .before .before .before .before .before .before .before .before .before .before .before .args in
-    rw (c .before .before .before .limits-of .ensures) (ready (a .w) (a .h) (a .dpi) (a .xheight) (a .ink .now) (a .glyphs .now) (a .p) (a .rects .now) (a .marks .now) (a .coverages .now) (sym (c .before .before .before .before .before .missed .ensures) ∙ c .before .before .before .before .if1 .left))
+    rw (c .before .before .before .limits-of .ensures) (accepted-ready (a .w) (a .h) (a .dpi) (a .xheight) (a .ink .now) (a .glyphs .now) (a .p) (a .rects .now) (a .marks .now) (a .coverages .now) (sym (c .before .before .before .before .before .missed .ensures) ∙ c .before .before .before .before .if1 .left))
 
 same-length : tie.Need-same-length
 same-length c = search needs

@@ -4,7 +4,8 @@ use Prim.Native.Nat.{ℕ, _≤_}
 use native.Mathlib.Omega.{arith}
 use lib.Seq.{length-take-le}
 use Rattle.rects.specs.Rects.{count}
-use Rattle.tables.proofs.Passing.{passed}
+use Rattle.tables.specs.Call.{Lent, missedBy}
+use Rattle.tables.proofs.Passing.{Passed, passed}
 use Rattle.tables.proofs.Accepting.{asked, refused, accepted, all-chosen, join-of, given-all, roomy-all}
 use borrow.Author.Needs.{needs}
 use Rattle.tables.proofs.tables.Statement.{statement}
@@ -12,6 +13,28 @@ use Rattle.tables.proofs.tables.Tie as tie
 
 kept-room : {n a b : ℕ} → n ≤ a → b ≡ a → n ≤ b
 kept-room h e = omega arith
+
+-- what was lent
+abbrev lent : tie.Start → Lent
+lent s =
+    let a = s .args in
+    record {
+      lists = record { members = a .members .now; ends = a .ends .now; numbers = a .numbers .now; bounds = a .bounds .now; rows = a .rows .now; columns = a .columns .now; rulings = a .rulings .now; shares = a .shares .now; free = a .free .now; parents = a .parents .now; work = a .work .now; keys = a .keys .now };
+      chosen = a .chosen .now;
+    }
+
+-- the number that the guard gave
+number-is : (c : tie.After-missed)
+    → let s = c .before .before .before .before .before .before .before .before .before .before .before .before .before .before .before .before .before .before in c .missed .result ≡ missedBy (s .args .xheight) (s .args .p) (s .args .rects .now) (s .args .directions .now) (lent s)
+number-is c =
+    let s = c .before .before .before .before .before .before .before .before .before .before .before .before .before .before .before .before .before .before in
+    asked (s .args .xheight) (s .args .p) (s .args .rects .now) (s .args .directions .now) (lent s) (c .missed .ensures) (c .before .before .room-for-tables .ensures) (c .before .room-for-indexes .ensures)
+
+-- what is known once it is 0
+known : (c : tie.Else1) → let s = c .before .before .before .before .before .before .before .before .before .before .before .before .before .before .before .before .before .before .before in Passed (s .args .xheight) (s .args .p) (s .args .rects .now) (s .args .directions .now) (lent s)
+known c =
+    let s = c .before .before .before .before .before .before .before .before .before .before .before .before .before .before .before .before .before .before .before in
+    passed (s .args .xheight) (s .args .p) (s .args .rects .now) (s .args .directions .now) (lent s) (sym (number-is (c .before)) ∙ c .if1 .left)
 
 room-for-tables-requires : tie.Need-room-for-tables-requires
 room-for-tables-requires c κs = search needs
@@ -24,36 +47,31 @@ missed-requires c κs = search needs
 
 returns : tie.Need-returns
 returns c =
-    let start = c .before .before .before .before .before .before .before .before .before .before .before .before .before .before .before .before .before .before .before in
-    refused (start .args .xheight) (start .args .p) (start .args .rects .now) (start .args .directions .now) (asked (start .args .xheight) (start .args .p) (start .args .rects .now) (start .args .directions .now) (record { members = start .args .members .now; ends = start .args .ends .now; numbers = start .args .numbers .now; bounds = start .args .bounds .now; rows = start .args .rows .now; columns = start .args .columns .now; rulings = start .args .rulings .now; shares = start .args .shares .now; free = start .args .free .now; chosen = start .args .chosen .now; parents = start .args .parents .now; work = start .args .work .now; keys = start .args .keys .now }) (c .before .missed .ensures) (c .before .before .before .room-for-tables .ensures) (c .before .before .room-for-indexes .ensures)) (record { members = start .args .members .now; ends = start .args .ends .now; numbers = start .args .numbers .now; bounds = start .args .bounds .now; rows = start .args .rows .now; columns = start .args .columns .now; rulings = start .args .rulings .now; shares = start .args .shares .now; free = start .args .free .now; chosen = start .args .chosen .now; parents = start .args .parents .now; work = start .args .work .now; keys = start .args .keys .now }) (c .if1 .taken)
+    let s = c .before .before .before .before .before .before .before .before .before .before .before .before .before .before .before .before .before .before .before in
+    refused (s .args .xheight) (s .args .p) (s .args .rects .now) (s .args .directions .now) (lent s) (number-is (c .before)) (c .if1 .taken)
 
 begin-requires : tie.Need-begin-requires
-begin-requires c κs =
-    let start = c .before .before .before .before .before .before .before .before .before .before .before .before .before .before .before .before .before .before .before .before in
-    let P = passed (start .args .xheight) (start .args .p) (start .args .rects .now) (start .args .directions .now) (record { members = start .args .members .now; ends = start .args .ends .now; numbers = start .args .numbers .now; bounds = start .args .bounds .now; rows = start .args .rows .now; columns = start .args .columns .now; rulings = start .args .rulings .now; shares = start .args .shares .now; free = start .args .free .now; chosen = start .args .chosen .now; parents = start .args .parents .now; work = start .args .work .now; keys = start .args .keys .now }) (sym (asked (start .args .xheight) (start .args .p) (start .args .rects .now) (start .args .directions .now) (record { members = start .args .members .now; ends = start .args .ends .now; numbers = start .args .numbers .now; bounds = start .args .bounds .now; rows = start .args .rows .now; columns = start .args .columns .now; rulings = start .args .rulings .now; shares = start .args .shares .now; free = start .args .free .now; chosen = start .args .chosen .now; parents = start .args .parents .now; work = start .args .work .now; keys = start .args .keys .now }) (c .before .before .missed .ensures) (c .before .before .before .before .room-for-tables .ensures) (c .before .before .before .room-for-indexes .ensures)) ∙ c .before .if1 .left) in
-    record { room = P .chosen; small = omega (arith, P .few) }
+begin-requires c κs = let P = known (c .before) in record { room = P .chosen; small = omega (arith, P .few) }
 
 limits-of-requires : tie.Need-limits-of-requires
-limits-of-requires c κs =
-    let start = c .before .before .before .before .before .before .before .before .before .before .before .before .before .before .before .before .before .before .before .before .before .before .before in
-    (passed (start .args .xheight) (start .args .p) (start .args .rects .now) (start .args .directions .now) (record { members = start .args .members .now; ends = start .args .ends .now; numbers = start .args .numbers .now; bounds = start .args .bounds .now; rows = start .args .rows .now; columns = start .args .columns .now; rulings = start .args .rulings .now; shares = start .args .shares .now; free = start .args .free .now; chosen = start .args .chosen .now; parents = start .args .parents .now; work = start .args .work .now; keys = start .args .keys .now }) (sym (asked (start .args .xheight) (start .args .p) (start .args .rects .now) (start .args .directions .now) (record { members = start .args .members .now; ends = start .args .ends .now; numbers = start .args .numbers .now; bounds = start .args .bounds .now; rows = start .args .rows .now; columns = start .args .columns .now; rulings = start .args .rulings .now; shares = start .args .shares .now; free = start .args .free .now; chosen = start .args .chosen .now; parents = start .args .parents .now; work = start .args .work .now; keys = start .args .keys .now }) (c .before .before .before .before .before .missed .ensures) (c .before .before .before .before .before .before .before .room-for-tables .ensures) (c .before .before .before .before .before .before .room-for-indexes .ensures)) ∙ c .before .before .before .before .if1 .left)) .settled
+limits-of-requires c κs = known (c .before .before .before .before) .settled
 
 slice-reshare-prefix-find : tie.Need-slice-reshare-prefix-find
-slice-reshare-prefix-find c =
-    let start = c .before .before .before .before .before .before .before .before .before .before .before .before .before .before .before .before .before .before .before .before .before .before .before .before in
-    kept-room ((passed (start .args .xheight) (start .args .p) (start .args .rects .now) (start .args .directions .now) (record { members = start .args .members .now; ends = start .args .ends .now; numbers = start .args .numbers .now; bounds = start .args .bounds .now; rows = start .args .rows .now; columns = start .args .columns .now; rulings = start .args .rulings .now; shares = start .args .shares .now; free = start .args .free .now; chosen = start .args .chosen .now; parents = start .args .parents .now; work = start .args .work .now; keys = start .args .keys .now }) (sym (asked (start .args .xheight) (start .args .p) (start .args .rects .now) (start .args .directions .now) (record { members = start .args .members .now; ends = start .args .ends .now; numbers = start .args .numbers .now; bounds = start .args .bounds .now; rows = start .args .rows .now; columns = start .args .columns .now; rulings = start .args .rulings .now; shares = start .args .shares .now; free = start .args .free .now; chosen = start .args .chosen .now; parents = start .args .parents .now; work = start .args .work .now; keys = start .args .keys .now }) (c .before .before .before .before .before .before .missed .ensures) (c .before .before .before .before .before .before .before .before .room-for-tables .ensures) (c .before .before .before .before .before .before .before .room-for-indexes .ensures)) ∙ c .before .before .before .before .before .if1 .left)) .chosen) (c .before .before .before .begin .kept .0)
+slice-reshare-prefix-find c = kept-room (known (c .before .before .before .before .before) .chosen) (c .before .before .before .begin .kept .0)
 
 slice-aggregate-find : tie.Need-slice-aggregate-find
 slice-aggregate-find c =
-    let start = c .before .before .before .before .before .before .before .before .before .before .before .before .before .before .before .before .before .before .before .before .before .before .before .before .before in
-    sym (length-take-le (count (start .args .rects .now)) (c .before .before .before .before .begin .last .0) (kept-room ((passed (start .args .xheight) (start .args .p) (start .args .rects .now) (start .args .directions .now) (record { members = start .args .members .now; ends = start .args .ends .now; numbers = start .args .numbers .now; bounds = start .args .bounds .now; rows = start .args .rows .now; columns = start .args .columns .now; rulings = start .args .rulings .now; shares = start .args .shares .now; free = start .args .free .now; chosen = start .args .chosen .now; parents = start .args .parents .now; work = start .args .work .now; keys = start .args .keys .now }) (sym (asked (start .args .xheight) (start .args .p) (start .args .rects .now) (start .args .directions .now) (record { members = start .args .members .now; ends = start .args .ends .now; numbers = start .args .numbers .now; bounds = start .args .bounds .now; rows = start .args .rows .now; columns = start .args .columns .now; rulings = start .args .rulings .now; shares = start .args .shares .now; free = start .args .free .now; chosen = start .args .chosen .now; parents = start .args .parents .now; work = start .args .work .now; keys = start .args .keys .now }) (c .before .before .before .before .before .before .before .missed .ensures) (c .before .before .before .before .before .before .before .before .before .room-for-tables .ensures) (c .before .before .before .before .before .before .before .before .room-for-indexes .ensures)) ∙ c .before .before .before .before .before .before .if1 .left)) .chosen) (c .before .before .before .before .begin .kept .0)))
+    let s = c .before .before .before .before .before .before .before .before .before .before .before .before .before .before .before .before .before .before .before .before .before .before .before .before .before in
+    sym (length-take-le (count (s .args .rects .now)) (c .before .before .before .before .begin .last .0) (kept-room (known (c .before .before .before .before .before .before) .chosen) (c .before .before .before .before .begin .kept .0)))
 
 find-requires : tie.Need-find-requires
 find-requires c κs =
-    let start = c .before .before .before .before .before .before .before .before .before .before .before .before .before .before .before .before .before .before .before .before .before .before .before .before .before .before .before .before .before .before .before .before .before .before .before .before .before in
-    let P = passed (start .args .xheight) (start .args .p) (start .args .rects .now) (start .args .directions .now) (record { members = start .args .members .now; ends = start .args .ends .now; numbers = start .args .numbers .now; bounds = start .args .bounds .now; rows = start .args .rows .now; columns = start .args .columns .now; rulings = start .args .rulings .now; shares = start .args .shares .now; free = start .args .free .now; chosen = start .args .chosen .now; parents = start .args .parents .now; work = start .args .work .now; keys = start .args .keys .now }) (sym (asked (start .args .xheight) (start .args .p) (start .args .rects .now) (start .args .directions .now) (record { members = start .args .members .now; ends = start .args .ends .now; numbers = start .args .numbers .now; bounds = start .args .bounds .now; rows = start .args .rows .now; columns = start .args .columns .now; rulings = start .args .rulings .now; shares = start .args .shares .now; free = start .args .free .now; chosen = start .args .chosen .now; parents = start .args .parents .now; work = start .args .work .now; keys = start .args .keys .now }) (c .before .before .before .before .before .before .before .before .before .before .before .before .before .before .before .before .before .before .before .missed .ensures) (c .before .before .before .before .before .before .before .before .before .before .before .before .before .before .before .before .before .before .before .before .before .room-for-tables .ensures) (c .before .before .before .before .before .before .before .before .before .before .before .before .before .before .before .before .before .before .before .before .room-for-indexes .ensures)) ∙ c .before .before .before .before .before .before .before .before .before .before .before .before .before .before .before .before .before .before .if1 .left) in (
-      (join-of (start .args .p) (start .args .xheight) (c .before .before .before .before .before .before .before .before .before .before .before .before .before .limits-of .ensures) (P .settled), given-all (count (start .args .rects .now)) (start .args .chosen .now) (c .before .before .before .before .before .before .before .before .before .before .before .before .before .before .before .before .begin .ensures) (P .given)),
-      roomy-all (record { members = start .args .members .now; ends = start .args .ends .now; numbers = start .args .numbers .now; bounds = start .args .bounds .now; rows = start .args .rows .now; columns = start .args .columns .now; rulings = start .args .rulings .now; shares = start .args .shares .now; free = start .args .free .now; chosen = start .args .chosen .now; parents = start .args .parents .now; work = start .args .work .now; keys = start .args .keys .now }) _ (P .roomy) (all-chosen (count (start .args .rects .now)) (start .args .chosen .now) (c .before .before .before .before .before .before .before .before .before .before .before .before .before .before .before .before .begin .ensures)),
+    let s = c .before .before .before .before .before .before .before .before .before .before .before .before .before .before .before .before .before .before .before .before .before .before .before .before .before .before .before .before .before .before .before .before .before .before .before .before .before in
+    let P = known (c .before .before .before .before .before .before .before .before .before .before .before .before .before .before .before .before .before .before) in
+    let n = count (s .args .rects .now) in
+    let all = c .before .before .before .before .before .before .before .before .before .before .before .before .before .before .before .before .begin .ensures in (
+      (join-of (s .args .p) (s .args .xheight) (c .before .before .before .before .before .before .before .before .before .before .before .before .before .limits-of .ensures) (P .settled), given-all n (s .args .chosen .now) all (P .given)),
+      roomy-all (lent s .lists) (P .roomy) (all-chosen n (s .args .chosen .now) all),
     )
 
 same-length : tie.Need-same-length
@@ -97,8 +115,10 @@ same-length-13 c = c .before .before .before .before .before .before .before .be
 
 returns-2 : tie.Need-returns-2
 returns-2 c =
-    let start = c .before .before .before .before .before .before .before .before .before .before .before .before .before .before .before .before .before .before .before .before .before .before .before .before .before .before .before .before .before .before .before .before .before .before .before .before .before .before .before .before .before .before .before .before .before .before .before .before .before .before .before .before .before .before .before .before .before .before .before .before .before .before in
-    accepted (start .args .xheight) (start .args .p) (start .args .rects .now) (start .args .directions .now) (asked (start .args .xheight) (start .args .p) (start .args .rects .now) (start .args .directions .now) (record { members = start .args .members .now; ends = start .args .ends .now; numbers = start .args .numbers .now; bounds = start .args .bounds .now; rows = start .args .rows .now; columns = start .args .columns .now; rulings = start .args .rulings .now; shares = start .args .shares .now; free = start .args .free .now; chosen = start .args .chosen .now; parents = start .args .parents .now; work = start .args .work .now; keys = start .args .keys .now }) (c .before .before .before .before .before .before .before .before .before .before .before .before .before .before .before .before .before .before .before .before .before .before .before .before .before .before .before .before .before .before .before .before .before .before .before .before .before .before .before .before .before .before .before .before .missed .ensures) (c .before .before .before .before .before .before .before .before .before .before .before .before .before .before .before .before .before .before .before .before .before .before .before .before .before .before .before .before .before .before .before .before .before .before .before .before .before .before .before .before .before .before .before .before .before .before .room-for-tables .ensures) (c .before .before .before .before .before .before .before .before .before .before .before .before .before .before .before .before .before .before .before .before .before .before .before .before .before .before .before .before .before .before .before .before .before .before .before .before .before .before .before .before .before .before .before .before .before .room-for-indexes .ensures)) (record { members = start .args .members .now; ends = start .args .ends .now; numbers = start .args .numbers .now; bounds = start .args .bounds .now; rows = start .args .rows .now; columns = start .args .columns .now; rulings = start .args .rulings .now; shares = start .args .shares .now; free = start .args .free .now; chosen = start .args .chosen .now; parents = start .args .parents .now; work = start .args .work .now; keys = start .args .keys .now }) _ _ _ (c .before .before .before .before .before .before .before .before .before .before .before .before .before .before .before .before .before .before .before .before .before .before .before .before .before .before .before .before .before .before .before .before .before .before .before .before .before .before .before .before .before .before .before .if1 .left) (all-chosen (count (start .args .rects .now)) (start .args .chosen .now) (c .before .before .before .before .before .before .before .before .before .before .before .before .before .before .before .before .before .before .before .before .before .before .before .before .before .before .before .before .before .before .before .before .before .before .before .before .before .before .before .before .before .begin .ensures)) (c .before .before .before .before .before .before .before .before .before .before .before .before .before .before .before .before .before .before .before .before .before .before .before .before .before .before .before .before .before .before .before .before .before .before .before .before .before .before .limits-of .ensures) (c .before .before .before .before .before .before .before .before .before .before .before .before .before .before .before .before .before .before .before .before .before .before .before .before .find .ensures)
+    let s = c .before .before .before .before .before .before .before .before .before .before .before .before .before .before .before .before .before .before .before .before .before .before .before .before .before .before .before .before .before .before .before .before .before .before .before .before .before .before .before .before .before .before .before .before .before .before .before .before .before .before .before .before .before .before .before .before .before .before .before .before .before .before in
+    let k = c .before .before .before .before .before .before .before .before .before .before .before .before .before .before .before .before .before .before .before .before .before .before .before .before .before .before .before .before .before .before .before .before .before .before .before .before .before .before .before .before .before .before .before in
+    accepted (s .args .xheight) (s .args .p) (s .args .rects .now) (s .args .directions .now) (lent s) (number-is (k .before)) _ (k .if1 .left) (known k .settled)
+    (all-chosen (count (s .args .rects .now)) (s .args .chosen .now) (c .before .before .before .before .before .before .before .before .before .before .before .before .before .before .before .before .before .before .before .before .before .before .before .before .before .before .before .before .before .before .before .before .before .before .before .before .before .before .before .before .before .begin .ensures)) (c .before .before .before .before .before .before .before .before .before .before .before .before .before .before .before .before .before .before .before .before .before .before .before .before .before .before .before .before .before .before .before .before .before .before .before .before .before .before .limits-of .ensures) (c .before .before .before .before .before .before .before .before .before .before .before .before .before .before .before .before .before .before .before .before .before .before .before .before .find .ensures)
 
 pub tables-spec : {M : Type 1} → statement M
 tables-spec =

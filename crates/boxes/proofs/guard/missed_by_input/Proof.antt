@@ -11,7 +11,7 @@ use Rattle.params.specs.Scan.{dpiGiven, xheightInRange}
 use Rattle.params.specs.Settings.{settingsQuestions}
 use Rattle.rects.specs.Rects.{countFits, allInside}
 use Rattle.layout.specs.Sides.{levelledSidesFit, rasterFits}
-use Rattle.boxes.proofs.Accepted.{sides-say}
+use Rattle.layout.proofs.Answers.{sides-say}
 use Rattle.boxes.proofs.guard.missed_by_input.Statement.{statement}
 use Rattle.boxes.proofs.guard.missed_by_input.Tie as tie
 

@@ -55,7 +55,7 @@ same-length-3 c = c .before .loop .inv .coverages-long
 returns : tie.Need-returns Inv-loop μ-loop
 returns c =
     let s = c .before .before .before .before .before .before .before in let a = s .args in
-    done (a .mask .now) (a .w) (a .glyphs .now) (a .l) (c .before .loop .inv) (c .loop-test .left)
+    done (a .mask .now) (a .w) (a .glyphs .now) (a .l) (s .pre) (c .before .loop .inv) (c .loop-test .left)
 
 pub find-spec : {M : Type 1} → statement M
 find-spec =

@@ -54,7 +54,8 @@ returns : tie.Need-returns
 returns c =
     let start = c .before .before .before .before .before .before .before .before .before .before .before .before .before .before .before .before .before .before .before .before .before .before .before .before .before .before .before .before .before .before .before .before .before .before .before .before .before .before .before .before .before .before in
     filled (start .args .rects .now) (start .args .limit) (start .args .least) _ _ (c .before .before .before .before .before .before .before .before .before .before .before .before .before .before .before .before .before .before .before .before .before .before .before .before .before .before .before .before .before .connect .ensures)
-    (set-is (start .args .rects .now) (start .args .limit) (c .before .before .before .before .before .before .before .before .before .before .before .before .before .before .before .before .before .before .before .before .before .before .before .before .before .before .before .before .before .connect .ensures) (start .pre .2 .members) (start .pre .2 .ends)) (c .before .before .before .before .before .before .before .before .before .before .before .before .before .before .read-sets .ensures) (c .before .before .choose .ensures)
+    (set-is (start .args .rects .now) (start .args .limit) (c .before .before .before .before .before .before .before .before .before .before .before .before .before .before .before .before .before .before .before .before .before .before .before .before .before .before .before .before .before .connect .ensures) (start .pre .2 .members) (start .pre .2 .ends))
+    (start .pre .2 .members) (start .pre .2 .ends) (start .pre .2 .reading) (c .before .before .before .before .before .before .before .before .before .before .before .before .before .before .read-sets .ensures) (c .before .before .choose .ensures)
 
 pub find-spec : {M : Type 1} → statement M
 find-spec =

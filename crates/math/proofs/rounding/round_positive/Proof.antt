@@ -1,22 +1,22 @@
 -- `math::rounding::round_positive` meets its contract: below 2 ^ 52 the nearest whole number is exact as a float, and from there on x is whole. Assumes nothing.
 use mathlib.Core.Path.{_≡_, sym, ap, _∙_}
-use Prim.Native.Nat.{ℕ, _^_}
+use Prim.Native.Nat.{ℕ}
 use native.Mathlib.Nat.{le-trans}
-use lib.Dec.{lit≤, le→leb}
+use lib.Dec.{lit≤}
 use lib.IntN.{pos}
-use lib.Ieee.{binary64, ofInt, inFloat}
+use lib.Ieee.{binary64, ofInt}
 use lib.Ieee.Bits.{is-true}
 use Rattle.math.proofs.rounding.round_positive.Statement.{statement}
 use Rattle.math.proofs.rounding.round_positive.Tie as tie
 use Rattle.math.proofs.Tests.{of-true}
 use Rattle.math.proofs.Rounded.{whole-from-52, nearest-rounds}
+use Rattle.math.proofs.Sums.{as-float}
 
 half-up-requires : tie.Need-half-up-requires
 half-up-requires c κs = (c .before .pre, of-true (c .if1 .taken))
 
 int-to-float-result : tie.Need-int-to-float-result
-unfolding inFloat
-int-to-float-result c = le→leb (c .before .half-up .result) (2 ^ 53) (le-trans (c .before .half-up .ensures .1) (lit≤ tt))
+int-to-float-result c = as-float (c .before .half-up .result) (le-trans (c .before .half-up .ensures .1) (lit≤ tt))
 
 returns : tie.Need-returns
 returns c =

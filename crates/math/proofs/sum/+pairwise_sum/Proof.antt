@@ -1,11 +1,9 @@
 -- `math::sum::pairwise_sum` meets its contract, by the two sentences of its definition. The measure is the list's length, and either half of more than 8 values is shorter.
 -- Assumes nothing.
 use mathlib.Core.Path.{_≡_, sym, ap, ap₂, _∙_}
-use mathlib.Core.List.{List}
-use Prim.Native.Nat.{ℕ, _-_, _/_, _≤_, _<_, min}
-use native.Mathlib.Omega.{arith}
-use lib.ListN.{length, take, drop, length-take, length-drop}
-use lib.Ieee.{Float, binary64, add}
+use Prim.Native.Nat.{ℕ, _/_, _<_}
+use lib.ListN.{length}
+use lib.Ieee.{binary64, add}
 use borrow.Author.Needs.{needs, scaled-fits}
 use borrow.Rule.Slice.PartAt.{part-to-end}
 use borrow.Fn.Kinds.{In}
@@ -17,6 +15,7 @@ use Rattle.math.proofs.sum.add_up.Reads as add-up-reads
 use Rattle.math.proofs.sum.+pairwise_sum.{statement}
 use Rattle.math.proofs.sum.+pairwise_sum.Tie.{close}
 use Rattle.math.specs.Sum.{pairwiseSum}
+use Rattle.math.proofs.Halves.{half-lt, half-le, front-length, front-shorter, back-shorter}
 use Rattle.math.proofs.Sums.{sum-of-short, sum-of-long}
 
 abbrev μ-pairwise-sum : Measures 1 pairwise-sum-kinds.ps ℕ
@@ -28,21 +27,6 @@ pairwise-sum-at t = and 1 pairwise-sum-kinds.ps (is 1 pairwise-sum-kinds.ps μ-p
 abbrev pairwise-sum-below : ℕ → In 1 pairwise-sum-kinds.ps
 pairwise-sum-below t = and 1 pairwise-sum-kinds.ps (falls 1 pairwise-sum-kinds.ps _<_ μ-pairwise-sum t) pairwise-sum.Pre
 
-half-lt : (n : ℕ) → 8 < n → n / 2 < n
-half-lt n h = omega arith
-
-half-le : (n : ℕ) → n / 2 ≤ n
-half-le n = omega arith
-
-front-length : (xs : List Float) → length xs / 2 ≡ length (take (length xs / 2) xs)
-front-length xs = let e = length-take (length xs / 2) xs in omega arith
-
-front-shorter : (t : ℕ) (xs : List Float) → length xs ≡ t → 8 < length xs → length (take (length xs / 2) xs) < t
-front-shorter t xs e h = let l = length-take (length xs / 2) xs in omega arith
-
-back-shorter : (t : ℕ) (xs : List Float) → length xs ≡ t → 8 < length xs → length (take (length xs - length xs / 2) (drop (length xs / 2) xs)) < t
-back-shorter t xs e h = rw part-to-end (let l = length-drop (length xs / 2) xs in omega arith)
-
 pairwise-sum-add-up-requires : (t : ℕ) → pairwise-sum-lts.Need-add-up-requires (add-up-reads.Asked, add-up-reads.Learnt, pairwise-sum-below t, pairwise-sum.Post) (pairwise-sum-at t) pairwise-sum.Post
 pairwise-sum-add-up-requires t c κs = tt
 
@@ -53,7 +37,7 @@ pairwise-sum-slice-aggregate-pairwise-sum : (t : ℕ) → pairwise-sum-lts.Need-
 pairwise-sum-slice-aggregate-pairwise-sum t c = front-length (c .before .before .before .args .values .now)
 
 pairwise-sum-pairwise-sum-requires : (t : ℕ) → pairwise-sum-lts.Need-pairwise-sum-requires (add-up-reads.Asked, add-up-reads.Learnt, pairwise-sum-below t, pairwise-sum.Post) (pairwise-sum-at t) pairwise-sum.Post
-pairwise-sum-pairwise-sum-requires t c κs = (front-shorter t (c .before .before .before .args .values .now) (c .before .before .before .pre .0) (c .before .if1 .left), tt)
+pairwise-sum-pairwise-sum-requires t c κs = (front-shorter (c .before .before .before .args .values .now) t (c .before .before .before .pre .0) (c .before .if1 .left), tt)
 
 pairwise-sum-mul-pairwise-sum : (t : ℕ) → pairwise-sum-lts.Need-mul-pairwise-sum (add-up-reads.Asked, add-up-reads.Learnt, pairwise-sum-below t, pairwise-sum.Post) (pairwise-sum-at t) pairwise-sum.Post
 pairwise-sum-mul-pairwise-sum t c = let xs = c .before .before .before .before .args .values .now in scaled-fits (length xs / 2) (length xs) 8 (half-lt (length xs) (c .before .before .if1 .left)) (c .before .before .before .before .good .0 .1)
@@ -68,7 +52,7 @@ pairwise-sum-part-pairwise-sum-end : (t : ℕ) → pairwise-sum-lts.Need-part-pa
 pairwise-sum-part-pairwise-sum-end t c = search needs
 
 pairwise-sum-pairwise-sum-requires-2 : (t : ℕ) → pairwise-sum-lts.Need-pairwise-sum-requires-2 (add-up-reads.Asked, add-up-reads.Learnt, pairwise-sum-below t, pairwise-sum.Post) (pairwise-sum-at t) pairwise-sum.Post
-pairwise-sum-pairwise-sum-requires-2 t c κs = (back-shorter t (c .before .before .before .before .before .args .values .now) (c .before .before .before .before .before .pre .0) (c .before .before .before .if1 .left), tt)
+pairwise-sum-pairwise-sum-requires-2 t c κs = (back-shorter (c .before .before .before .before .before .args .values .now) t (c .before .before .before .before .before .pre .0) (c .before .before .before .if1 .left), tt)
 
 pairwise-sum-returns-2 : (t : ℕ) → pairwise-sum-lts.Need-returns-2 (add-up-reads.Asked, add-up-reads.Learnt, pairwise-sum-below t, pairwise-sum.Post) (pairwise-sum-at t) pairwise-sum.Post
 pairwise-sum-returns-2 t c =

@@ -6,8 +6,7 @@ use Prim.Native.Nat.{ℕ, _+_, _-_, _*_, _≤_, _<_}
 use native.Mathlib.Omega.{arith}
 use borrow.Author.Needs.{scaled-fits}
 use lib.ListN.{length, getD, drop}
-use Rattle.lists.specs.Lists.{keep}
-use Rattle.lists.proofs.Sizes.{one}
+use Rattle.lists.specs.Lists.{one, keep}
 use Rattle.meeting.specs.declared.segment.Segment.{Segment}
 use Rattle.meeting.specs.Segments.{rulingAt}
 use Rattle.meeting.specs.Meeting.{endJoined, joinedEnds}

@@ -4,8 +4,7 @@ use mathlib.Core.Bool.{Bool}
 use mathlib.Core.List.{List}
 use Prim.Native.Nat.{ℕ, _+_}
 use borrow.Author.Needs.{needs}
-use Rattle.lists.specs.Lists.{any}
-use Rattle.lists.proofs.Sizes.{one}
+use Rattle.lists.specs.Lists.{one, any}
 use Rattle.meeting.specs.declared.segment.Segment.{Segment}
 use Rattle.meeting.specs.Segments.{rulingAt, joinsEnd}
 use Rattle.meeting.specs.Meeting.{endJoined}

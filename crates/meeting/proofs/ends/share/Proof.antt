@@ -3,11 +3,11 @@ use mathlib.Core.Path.{_≡_, ap}
 use mathlib.Core.List.{List}
 use Prim.Native.Nat.{ℕ, _*_, _≤_, _^_}
 use native.Mathlib.Omega.{arith}
-use lib.Dec.{T, le→leb}
 use lib.IntN.{pos}
-use lib.Ieee.{binary64, div, ofInt, inFloat}
+use lib.Ieee.{binary64, div, ofInt}
 use lib.ListN.{length}
 use Rattle.lists.proofs.Sizes.{keep-size-le}
+use Rattle.math.proofs.Sums.{as-float}
 use Rattle.meeting.specs.declared.segment.Segment.{Segment}
 use Rattle.meeting.specs.Segments.{rulingAt}
 use Rattle.meeting.specs.Meeting.{endJoined, joinedEnds, shareOf}
@@ -18,10 +18,6 @@ joined-few : (join : ℕ) (s : ℕ → Segment) (set : List ℕ) → joinedEnds 
 unfolding joinedEnds
 joined-few join s set =
     omega (arith, keep-size-le (λ i. endJoined join s set (s i .start) i) set, keep-size-le (λ i. endJoined join s set (s i .end) i) set)
-
-as-float : (n : ℕ) → n ≤ 2 ^ 53 → T (inFloat binary64 (pos n))
-unfolding inFloat
-as-float n h = le→leb n (2 ^ 53) h
 
 small : {r : ℕ} (join : ℕ) (s : ℕ → Segment) (set : List ℕ) → r ≡ joinedEnds join s set → length set ≤ 4096 → r ≤ 2 ^ 53
 small join s set e h = omega (arith, joined-few join s set)

@@ -37,7 +37,7 @@ shared-slice-read-segment-of c =
 segment-of-requires : tie.Need-segment-of-requires
 segment-of-requires c κs =
     let start = c .before .before .before .before .before .before in
-    sums-fit (start .pre .0) (getD (start .args .chosen .now) (start .args .i) 0) (c .before .rect-at .result) (c .before .rect-at .ensures)
+    sums-fit (start .pre .0) (start .args .i) (start .pre .1) (c .before .rect-at .result) (c .before .rect-at .ensures)
 
 returns : tie.Need-returns
 returns c =

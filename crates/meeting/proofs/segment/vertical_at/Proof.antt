@@ -49,7 +49,7 @@ rect-at-requires c κs =
 segment-of-requires : tie.Need-segment-of-requires
 segment-of-requires c κs =
     let start = c .before .before .before .before .before in
-    sums-fit (start .pre .0) (getD (start .args .chosen .now) (start .args .i) 0) (c .rect-at .result) (c .rect-at .ensures)
+    sums-fit (start .pre .0) (start .args .i) (start .pre .1) (c .rect-at .result) (c .rect-at .ensures)
 
 returns : tie.Need-returns
 returns c =

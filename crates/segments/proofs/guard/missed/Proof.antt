@@ -12,7 +12,7 @@ use Rattle.questions.specs.Questions.{Question, firstMissed}
 use Rattle.questions.proofs.FirstMissed.{numbered, all-yes, in-two-parts}
 use Rattle.rects.specs.Rects.{count}
 use Rattle.segments.specs.Contract.{roomFits, inputQuestions}
-use Rattle.segments.proofs.Accepted.{sides-say}
+use Rattle.layout.proofs.Answers.{sides-say}
 use Rattle.segments.proofs.guard.missed.Statement.{statement}
 use Rattle.segments.proofs.guard.missed.Tie as tie
 

@@ -7,14 +7,14 @@ use borrow.Author.Needs.{needs, scaled-fits}
 use lib.ListN.{length, set, length-set}
 use Rattle.lists.specs.Lists.{In, below, written}
 use Rattle.rects.specs.declared.Rect.{Rect}
-use Rattle.rects.specs.Rects.{count}
+use Rattle.rects.specs.Rects.{count, AllInside}
 use Rattle.rects.specs.Around.{around, Places}
 use Rattle.rects.proofs.Questions.{Inside}
 use Rattle.sets.specs.Listing.{membersOf}
 use Rattle.segments.specs.Rulings.{keyOf, keysOf}
-use Rattle.segments.specs.Steps.{AllInside, Parts, partsOf}
+use Rattle.segments.specs.Steps.{Parts, partsOf}
 use Rattle.segments.proofs.Runs.{value-written}
-use Rattle.segments.proofs.Parts.{map-map}
+use Rattle.lists.proofs.Keep.{map-map}
 use Rattle.segments.proofs.Rectangles.{places-known, around-inside}
 use Rattle.segments.proofs.keys.set_keys.Statement.{statement}
 use Rattle.segments.proofs.keys.set_keys.Tie as tie

@@ -13,12 +13,12 @@ use Rattle.rects.specs.declared.Rect.{Rect}
 use Rattle.rects.specs.Rects.{count, rectAt}
 use Rattle.rects.specs.Around.{around}
 use Rattle.rects.proofs.Questions.{has-numbers}
-use Rattle.contrast.specs.Contrast.{OnPicture, contrastOf}
+use Rattle.contrast.specs.Contrast.{OnPicture, contrastOf, Contrasted}
 use Rattle.segments.specs.declared.ruling.Ruling.{Ruling}
 use Rattle.pieces.specs.Pieces.{horizontal}
 use Rattle.segments.specs.Rulings.{directionOf, rulingOf}
 use Rattle.pieces.specs.Steps.{Ordered}
-use Rattle.segments.specs.Steps.{Picture}
+use Rattle.segments.specs.Steps.{Picture, RulingMade}
 use Rattle.segments.proofs.Rectangles.{places-known, around-inside, inside-ordered}
 use Rattle.segments.proofs.ruling.ruling_of.Statement.{statement}
 use Rattle.segments.proofs.ruling.ruling_of.Tie as tie
@@ -34,11 +34,12 @@ module _ {raster : List ℕ} {w h : ℕ} (pieces set : List ℕ) (P : Picture ra
   on-picture e = rw e (record { full = P .full; narrow = P .narrow; low = P .low; inside = around-inside pieces set (P .inside) some known })
 
 made : (raster : List ℕ) (w h : ℕ) (pieces set : List ℕ) {r f : Rect} {t : Bool} {x : Float} → r ≡ around pieces set → f ≡ rectAt pieces (getD set 0 0)
-    → t ≡ horizontal f → x ≡ contrastOf raster w h r t → _≡_ {A = Ruling} (record { rect = r; horizontal = t; contrast = x }) (rulingOf raster w h pieces set)
+    → t ≡ horizontal f → Contrasted raster w h r t x → RulingMade raster w h pieces set (record { rect = r; horizontal = t; contrast = x })
 made raster w h pieces set {r} {f} {t} {x} p q e d =
     let g : t ≡ directionOf pieces set = e ∙ ap horizontal q in
-    let v : x ≡ contrastOf raster w h (around pieces set) (directionOf pieces set) = d ∙ ap₂ (contrastOf raster w h) p g in
-    λ i. record { rect = p i; horizontal = g i; contrast = v i }
+    let C = rw (p, g) at d in
+    let v = C .value in
+    record { value = λ i. record { rect = p i; horizontal = g i; contrast = v i }; near = rw v at (C .near) }
 
 bounding-requires : tie.Need-bounding-requires
 bounding-requires c κs = (c .before .before .before .pre .1, places-known (c .before .before .before .args .pieces .now) (c .before .before .before .args .set .now) (c .before .before .before .pre .2))
@@ -67,7 +68,7 @@ contrast-requires c κs =
 returns : tie.Need-returns
 returns c =
     let start = c .before .before .before .before .before .before .before .before in
-    made (start .args .raster .now) (start .args .w) (start .args .h) (start .args .pieces .now) (start .args .set .now) (c .before .before .before .before .bounding .ensures) (c .before .before .rect-at .ensures) (c .before .is-horizontal .ensures) (c .contrast .ensures .value)
+    made (start .args .raster .now) (start .args .w) (start .args .h) (start .args .pieces .now) (start .args .set .now) (c .before .before .before .before .bounding .ensures) (c .before .before .rect-at .ensures) (c .before .is-horizontal .ensures) (c .contrast .ensures)
 
 pub ruling-of-spec : {M : Type 1} → statement M
 ruling-of-spec =

@@ -3,9 +3,11 @@ use mathlib.Core.Path.{_≡_, sym, _∙_}
 use mathlib.Core.Bool.{Bool}
 use borrow.Author.Needs.{needs}
 use lib.ListN.{length}
+use Rattle.params.proofs.Limits.{limits}
 use Rattle.rects.specs.Rects.{count}
 use Rattle.segments.specs.Contract.{roomFits}
-use Rattle.segments.proofs.Accepted.{across-whole, gap-whole, ready}
+use Rattle.segments.specs.Steps.{Ready}
+use Rattle.segments.proofs.Accepted.{settled, ready}
 use Rattle.segments.proofs.Call.{accepted, refused}
 use Rattle.segments.proofs.segments.segments.Statement.{statement}
 use Rattle.segments.proofs.segments.segments.Tie as tie
@@ -16,6 +18,14 @@ room c =
     let a = c .args in
     roomFits (a .w) (a .h) (count (a .pieces .now)) (length (a .raster .now)) (length (a .rects .now)) (length (a .directions .now)) (length (a .contrasts .now)) (length (a .members .now)) (length (a .ends .now)) (length (a .parents .now)) (length (a .listed .now)) (length (a .listed-ends .now)) (length (a .work .now)) (length (a .keys .now))
 
+-- what the core is given, once the number is 0
+known : (c : tie.Else1)
+    → let a = c .before .before .before .before .before .before .before .before .before .before .before .before .before .before .args in
+    Ready (a .raster .now) (a .w) (a .h) (a .pieces .now) (a .rects .now) (a .directions .now) (a .contrasts .now) (a .members .now) (a .ends .now) (a .parents .now) (a .listed .now) (a .listed-ends .now) (a .work .now) (a .keys .now)
+known c =
+    let a = c .before .before .before .before .before .before .before .before .before .before .before .before .before .before .args in
+    ready (a .raster .now) (a .w) (a .h) (a .xheight) (a .pieces .now) (a .p) (a .rects .now) (a .directions .now) (a .contrasts .now) (a .members .now) (a .ends .now) (a .parents .now) (a .listed .now) (a .listed-ends .now) (a .work .now) (a .keys .now) (sym (c .before .missed .ensures) ∙ c .if1 .left)
+
 missed-requires : tie.Need-missed-requires
 missed-requires c κs = tt
 
@@ -24,20 +34,20 @@ returns c =
     let s = c .before .before .before .before .before .before .before .before .before .before .before .before .before .before in
     refused (s .args .raster .now) (s .args .w) (s .args .h) (s .args .xheight) (s .args .pieces .now) (s .args .p) (room s) (c .before .missed .ensures) (c .if1 .taken)
 
-limit-requires : tie.Need-limit-requires
-limit-requires c κs =
+limit-u32-requires : tie.Need-limit-u32-requires
+limit-u32-requires c κs =
     let s = c .before .before .before .before .before .before .before .before .before .before .before .before .before .before in
-    across-whole (s .args .w) (s .args .h) (s .args .xheight) (s .args .pieces .now) (s .args .p) (room s) (sym (c .before .missed .ensures) ∙ c .if1 .left)
+    limits (s .args .p) (s .args .xheight)
+    (settled (s .args .w) (s .args .h) (s .args .xheight) (s .args .pieces .now) (s .args .p) (room s) (sym (c .before .missed .ensures) ∙ c .if1 .left)) .across
 
-limit-requires-2 : tie.Need-limit-requires-2
-limit-requires-2 c κs =
+limit-u32-requires-2 : tie.Need-limit-u32-requires-2
+limit-u32-requires-2 c κs =
     let s = c .before .before .before .before .before .before .before .before .before .before .before .before .before .before .before in
-    gap-whole (s .args .w) (s .args .h) (s .args .xheight) (s .args .pieces .now) (s .args .p) (room s) (sym (c .before .before .missed .ensures) ∙ c .before .if1 .left)
+    limits (s .args .p) (s .args .xheight)
+    (settled (s .args .w) (s .args .h) (s .args .xheight) (s .args .pieces .now) (s .args .p) (room s) (sym (c .before .before .missed .ensures) ∙ c .before .if1 .left)) .gap
 
 rulings-requires : tie.Need-rulings-requires
-rulings-requires c κs =
-    let a = c .before .before .before .before .before .before .before .before .before .before .before .before .before .before .before .before .before .before .before .before .before .before .before .before .before .before .args in
-    ready (a .raster .now) (a .w) (a .h) (a .xheight) (a .pieces .now) (a .p) (a .rects .now) (a .directions .now) (a .contrasts .now) (a .members .now) (a .ends .now) (a .parents .now) (a .listed .now) (a .listed-ends .now) (a .work .now) (a .keys .now) (sym (c .before .before .before .before .before .before .before .before .before .before .before .before .before .missed .ensures) ∙ c .before .before .before .before .before .before .before .before .before .before .before .before .if1 .left)
+rulings-requires c κs = known (c .before .before .before .before .before .before .before .before .before .before .before .before)
 
 same-length : tie.Need-same-length
 same-length c = c .before .before .before .before .before .before .before .before .before .before .before .before .before .before .before .before .before .before .before .before .rulings .kept .1 .1 .1 .1 .1 .1 .0
@@ -72,7 +82,7 @@ same-length-10 c = c .before .before .before .before .before .before .before .be
 returns-2 : tie.Need-returns-2
 returns-2 c =
     let s = c .before .before .before .before .before .before .before .before .before .before .before .before .before .before .before .before .before .before .before .before .before .before .before .before .before .before .before .before .before .before .before .before .before .before .before .before .before .before .before .before .before .before .before .before .before .before .before in
-    accepted (s .args .raster .now) (s .args .w) (s .args .h) (s .args .xheight) (s .args .pieces .now) (s .args .p) (room s) (c .before .before .before .before .before .before .before .before .before .before .before .before .before .before .before .before .before .before .before .before .before .before .before .before .before .before .before .before .before .before .before .before .before .before .missed .ensures) (c .before .before .before .before .before .before .before .before .before .before .before .before .before .before .before .before .before .before .before .before .before .before .before .before .before .before .before .before .before .before .before .before .before .if1 .left) (c .before .before .before .before .before .before .before .before .before .before .before .before .before .before .before .before .before .before .before .before .before .before .before .before .before .before .before .before .before .before .before .before .limit .ensures) (c .before .before .before .before .before .before .before .before .before .before .before .before .before .before .before .before .before .before .before .before .before .before .before .before .before .before .before .before .before .before .before .limit2 .ensures) (c .before .before .before .before .before .before .before .before .before .before .before .before .before .before .before .before .before .before .before .before .rulings .ensures)
+    accepted (s .args .raster .now) (s .args .w) (s .args .h) (s .args .xheight) (s .args .pieces .now) (s .args .p) (room s) (c .before .before .before .before .before .before .before .before .before .before .before .before .before .before .before .before .before .before .before .before .before .before .before .before .before .before .before .before .before .before .before .before .before .before .missed .ensures) (c .before .before .before .before .before .before .before .before .before .before .before .before .before .before .before .before .before .before .before .before .before .before .before .before .before .before .before .before .before .before .before .before .before .if1 .left) (known (c .before .before .before .before .before .before .before .before .before .before .before .before .before .before .before .before .before .before .before .before .before .before .before .before .before .before .before .before .before .before .before .before .before)) (c .before .before .before .before .before .before .before .before .before .before .before .before .before .before .before .before .before .before .before .before .before .before .before .before .before .before .before .before .before .before .before .before .limit-u32 .ensures) (c .before .before .before .before .before .before .before .before .before .before .before .before .before .before .before .before .before .before .before .before .before .before .before .before .before .before .before .before .before .before .before .limit-u322 .ensures) (c .before .before .before .before .before .before .before .before .before .before .before .before .before .before .before .before .before .before .before .before .rulings .ensures)
 
 pub segments-spec : {M : Type 1} → statement M
 segments-spec =
@@ -80,8 +90,8 @@ segments-spec =
     (tie.spec
     missed-requires
     returns
-    limit-requires
-    limit-requires-2
+    limit-u32-requires
+    limit-u32-requires-2
     rulings-requires
     same-length
     same-length-2

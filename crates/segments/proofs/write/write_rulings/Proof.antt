@@ -1,21 +1,23 @@
 -- `write::write_rulings` meets its contract: one ruling more a turn. Assumes nothing.
-use mathlib.Core.Path.{_≡_, refl, sym, ap, _∙_}
-use mathlib.Core.List.{List, map}
+use mathlib.Core.Path.{_≡_, refl, sym, ap, subst, _∙_}
+use mathlib.Core.List.{List, [], map}
 use Prim.Native.Nat.{ℕ, _+_, _-_, _*_, _≤_, _<_, zero-le}
+use native.Mathlib.Nat.{not-suc-le-zero}
 use native.Mathlib.Omega.{arith}
+use borrow.Author.Count.{below-more}
 use borrow.Author.Needs.{needs, scaled-fits}
 use lib.Ieee.{Float}
 use lib.ListN.{length, set, length-set}
 use lib.Seq.{sets, length-sets}
 use Rattle.lists.specs.Lists.{In, below, concat, written}
+use Rattle.lists.proofs.Keep.{map-map, length-values, getD-values}
 use Rattle.rects.specs.Rects.{count, numbersOf}
 use Rattle.rects.specs.Around.{around}
 use Rattle.sets.specs.Listing.{membersOf}
 use Rattle.segments.specs.declared.ruling.Ruling.{Ruling}
 use Rattle.segments.specs.Rulings.{directionOf, directionNumber, rulingOf}
-use Rattle.segments.specs.Steps.{Picture, Parts, partsOf, Described, RoomForRulings}
+use Rattle.segments.specs.Steps.{Picture, Parts, partsOf, NearOwn, RulingMade, Described, RoomForRulings}
 use Rattle.segments.proofs.Runs.{total-four, value-written, run-written}
-use Rattle.segments.proofs.Parts.{map-map}
 use Rattle.segments.proofs.write.write_rulings.Statement.{statement}
 use Rattle.segments.proofs.write.write_rulings.Tie as tie
 
@@ -40,16 +42,17 @@ module _ (raster : List ℕ) (w h : ℕ) (pieces ms es : List ℕ) (n : ℕ) whe
     rects : rs ≡ written (concat (map numbers (below k))) rs₀
     directions : ds ≡ written (map direction (below k)) ds₀
     contrasts : cs ≡ written (map contrast (below k)) cs₀
+    near : (j : ℕ) → j < k → NearOwn raster w h pieces (part j)
 
   begun : (rs ds : List ℕ) (cs : List Float) → Describing rs ds cs rs ds cs 0
-  begun rs ds cs = record { up-to = zero-le; rects-long = refl; directions-long = refl; contrasts-long = refl; rects = refl; directions = refl; contrasts = refl }
+  begun rs ds cs = record { up-to = zero-le; rects-long = refl; directions-long = refl; contrasts-long = refl; rects = refl; directions = refl; contrasts = refl; near = λ j l. absurd (not-suc-le-zero l) }
 
   module _ (rs₀ ds₀ : List ℕ) (cs₀ : List Float) (R : RoomForRulings n rs₀ ds₀ cs₀) where
     turn : {rs ds rs′ : List ℕ} {cs : List Float} {k : ℕ} {s : List ℕ} {r : Ruling} {d : ℕ} → Describing rs₀ ds₀ cs₀ rs ds cs k → k < n
-        → s ≡ part k → r ≡ rulingOf raster w h pieces s → rs′ ≡ sets rs (4 * k) (numbersOf (r .rect)) → d ≡ directionNumber (r .horizontal)
+        → s ≡ part k → RulingMade raster w h pieces s r → rs′ ≡ sets rs (4 * k) (numbersOf (r .rect)) → d ≡ directionNumber (r .horizontal)
         → Describing rs₀ ds₀ cs₀ rs′ (set ds k d) (set cs k (r .contrast)) (k + 1)
     turn {rs} {ds} {rs′} {cs} {k} {s} {r} {d} W l p q e f =
-        let g : r ≡ rulingOf raster w h pieces (part k) = q ∙ ap (rulingOf raster w h pieces) p in
+        let g : r ≡ rulingOf raster w h pieces (part k) = q .value ∙ ap (rulingOf raster w h pieces) p in
         record {
           up-to = omega arith;
           rects-long = ap length e ∙ length-sets rs (4 * k) (numbersOf (r .rect)) ∙ W .rects-long;
@@ -58,6 +61,7 @@ module _ (raster : List ℕ) (w h : ℕ) (pieces ms es : List ℕ) (n : ℕ) whe
           rects = e ∙ run-written numbers rs₀ (W .rects) (sym (total-four numbers (λ j. refl) k)) (ap (λ (z : Ruling). numbersOf (z .rect)) g) (omega (arith, R .rects));
           directions = value-written direction ds₀ (W .directions) (omega (arith, R .directions)) (f ∙ ap (λ (z : Ruling). directionNumber (z .horizontal)) g);
           contrasts = value-written contrast cs₀ (W .contrasts) (omega (arith, R .contrasts)) (ap (λ (z : Ruling). z .contrast) g);
+          near = below-more (λ j. NearOwn raster w h pieces (part j)) k (W .near) (subst (NearOwn raster w h pieces) p (q .near));
         }
 
   done : {rs₀ ds₀ rs ds : List ℕ} {cs₀ cs : List Float} {k : ℕ} → Describing rs₀ ds₀ cs₀ rs ds cs k → n ≤ k → Described raster w h pieces (partsOf ms es n) rs₀ ds₀ cs₀ rs ds cs
@@ -67,6 +71,9 @@ module _ (raster : List ℕ) (w h : ℕ) (pieces ms es : List ℕ) (n : ℕ) whe
         rects = W .rects ∙ ap (λ (j : ℕ). written (concat (map numbers (below j))) rs₀) end ∙ ap (λ (t : List (List ℕ)). written (concat t) rs₀) (sym (map-map (λ s. numbersOf (around pieces s)) part (below n)));
         directions = W .directions ∙ ap (λ (j : ℕ). written (map direction (below j)) ds₀) end ∙ ap (λ (t : List ℕ). written t ds₀) (sym (map-map (λ s. directionNumber (directionOf pieces s)) part (below n)));
         contrasts = W .contrasts ∙ ap (λ (j : ℕ). written (map contrast (below j)) cs₀) end ∙ ap (λ (t : List Float). written t cs₀) (sym (map-map (λ s. rulingOf raster w h pieces s .contrast) part (below n)));
+        near = λ j z.
+            let u : j < n = rw (length-values part n) at z in
+            subst (NearOwn raster w h pieces) (sym (getD-values part n j [] u)) (W .near j (omega arith));
       }
 
 -- a part, as it was read

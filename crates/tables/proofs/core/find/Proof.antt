@@ -2,7 +2,7 @@
 use mathlib.Core.Path.{_≡_, _∙_}
 use Prim.Native.Nat.{ℕ, _*_, _≤_}
 use native.Mathlib.Omega.{arith}
-use Rattle.tables.proofs.Filling.{set-is, sets-in, tables-low, numbers-in, filled}
+use Rattle.tables.proofs.Filling.{set-is, read, sets-in, tables-low, numbers-in, filled}
 use borrow.Author.Needs.{needs}
 use Rattle.tables.proofs.core.find.Statement.{statement}
 use Rattle.tables.proofs.core.find.Tie as tie
@@ -82,7 +82,8 @@ same-length-12 c = search needs
 returns : tie.Need-returns
 returns c =
     let start = c .before .before .before .before .before .before .before .before .before .before .before .before .before .before .before .before .before .before .before .before .before .before .before .before .before .before .before .before .before .before .before .before .before .before .before .before .before .before .before .before .before .before .before .before .before .before .before .before .before .before .before .before .before .before .before .before .before .before .before .before .before .before .before .before .before in
-    filled (start .args .rects .now) (start .args .directions .now) (start .args .chosen .now) (start .args .limits) _ _ (c .before .before .before .before .before .before .before .before .before .before .before .before .before .before .before .before .before .before .before .before .before .before .before .before .before .before .before .before .before .before .before .before .before .before .before .before .before .before .before .before .before .before .before .before .before .connect .ensures) (set-is _ _ _ (c .before .before .before .before .before .before .before .before .before .before .before .before .before .before .before .before .before .before .before .before .before .before .before .before .before .before .before .before .before .before .before .before .before .before .before .before .before .before .before .before .before .before .before .before .before .connect .ensures) (start .pre .1 .members) (start .pre .1 .ends)) (c .before .before .before .before .before .before .before .before .before .before .before .before .before .before .before .before .before .before .before .before .before .before .before .before .before .before .before .choose .ensures) (c .before .before .before .before .before .before .describe .ensures)
+    let C = c .before .before .before .before .before .before .before .before .before .before .before .before .before .before .before .before .before .before .before .before .before .before .before .before .before .before .before .before .before .before .before .before .before .before .before .before .before .before .before .before .before .before .before .before .before .connect .ensures in
+    filled (start .args .rects .now) (start .args .directions .now) (start .args .chosen .now) (start .args .limits) _ _ C (set-is _ _ _ C (start .pre .1 .members) (start .pre .1 .ends)) (read _ _ _ C (start .pre .1 .members) (start .pre .1 .ends)) (c .before .before .before .before .before .before .before .before .before .before .before .before .before .before .before .before .before .before .before .before .before .before .before .before .before .before .before .choose .ensures) (c .before .before .before .before .before .before .describe .ensures)
 
 pub find-spec : {M : Type 1} → statement M
 find-spec =

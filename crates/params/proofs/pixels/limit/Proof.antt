@@ -1,4 +1,4 @@
--- `limits::limit` meets its contract: a limit that is not below 0 keeps its value in the cast.
+-- `pixels::limit` meets its contract: a limit that is not below 0 keeps its value in the cast.
 use mathlib.Core.Path.{_≡_, ap, _∙_}
 use Prim.Native.Nat.{_*_}
 use native.Mathlib.Omega.{arith}
@@ -8,15 +8,15 @@ use lib.Signed.{nonNeg}
 use mir.Syntax.{w64}
 use mir.Val.{Fits, SFits}
 use mir.ValLaws.{toZ-ofZ}
-use Rattle.math.proofs.Limit.{UpTo}
+use Rattle.math.specs.Rounding.{UpTo}
 use borrow.Author.Needs.{needs}
-use Rattle.shapes.proofs.limits.limit.Statement.{statement}
-use Rattle.shapes.proofs.limits.limit.Tie as tie
+use Rattle.params.proofs.pixels.limit.Statement.{statement}
+use Rattle.params.proofs.pixels.limit.Tie as tie
 
-signed : {z y : ℤ} → z ≡ y → UpTo (1000000 * 4096) y → SFits w64 z
+signed : {z y : ℤ} → z ≡ y → UpTo (2 * 1000000 * 4096) y → SFits w64 z
 signed e U = rw (e ∙ U .is) (record { sfits = omega (arith, U .at-most) })
 
-whole : {z y : ℤ} → z ≡ y → UpTo (1000000 * 4096) y → T (nonNeg z) × Fits w64 (natAbs z)
+whole : {z y : ℤ} → z ≡ y → UpTo (2 * 1000000 * 4096) y → T (nonNeg z) × Fits w64 (natAbs z)
 whole e U = rw (e ∙ U .is) (tt, record { fits = omega (arith, U .at-most) })
 
 rounded-product-requires : tie.Need-rounded-product-requires
