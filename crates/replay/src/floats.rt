@@ -1,5 +1,9 @@
-// The stored calls of float steps. A float is the 16 digits of its bits; a NaN is 7ff8000000000000.
+// The stored calls of float steps. A float is the 16 digits of its bits; a NaN is 7ff8000000000000. No list
+// has more than 128 floats.
+ghost use Prim.Native.Nat.{_≤_};
+ghost use lib.ListN.{length};
 use crate::words;
+use crate::words::Listed;
 use crate::words::Word;
 
 pub fn float_of(bits: u64) -> f64 {
@@ -19,7 +23,7 @@ pub fn bits_of(x: f64) -> u64 {
 }
 
 // The 64 bits of z in two's complement.
-fn bits_of_whole(z: i64) -> u64 {
+pub fn bits_of_whole(z: i64) -> u64 {
     if z < 0 {
         u64::MAX - ((-1 - z) as u64)
     } else {
@@ -27,36 +31,29 @@ fn bits_of_whole(z: i64) -> u64 {
     }
 }
 
-// Fills `out` with the floats of the words from `at` on, and returns the place past them.
-pub fn read_floats(text: &[u8], at: usize, out: &mut [f64]) -> usize {
-    let mut next = at;
+// Fills the front of `out` with floats, as `words::read_wholes` does with numbers.
+pub fn read_floats(text: &[u8], count: Word, out: &mut [f64]) -> Listed
+    ensures { λ r. ⌜ r .count ≤ length (now (out .exit)) ⌝ }
+{
+    let n = words::at_most(count.value, out.len());
+    let mut next = count.next;
     let mut i = 0;
-    while i < out.len() {
+    while i < n {
         let w = words::read_word(text, next);
         out[i] = float_of(w.value);
         next = w.next;
         i += 1;
     }
-    next
+    Listed { count: n, next }
 }
 
 pub fn pairwise_sum(text: &[u8], at: usize) -> Word {
-    let mut values = [0.0f64; 1024];
-    let count = words::read_word(text, at);
-    sum_of(text, count.next, count.value, &mut values)
-}
-
-// The sum of the next `count` floats, or of as many as `values` has room for.
-fn sum_of(text: &[u8], at: usize, count: u64, values: &mut [f64]) -> Word {
-    let n = words::at_most(count, values.len());
-    sum_all(text, at, &mut values[..n])
-}
-
-fn sum_all(text: &[u8], at: usize, values: &mut [f64]) -> Word {
-    let next = read_floats(text, at, values);
+    let mut values = [0.0f64; 128];
+    let read = read_floats(text, words::read_word(text, at), &mut values);
+    let n = read.count;
     Word {
-        value: bits_of(math::sum::pairwise_sum(values)),
-        next,
+        value: bits_of(math::sum::pairwise_sum(&values[..n])),
+        next: read.next,
     }
 }
 

@@ -1,10 +1,18 @@
-// Answers the stored calls of `stdin` anew. `stdout` has what the unchanged Rust answered, so the
-// two are compared where no Rust is at hand. tests/differential wrote both, and its README.md says
-// how the lines read: a call a line, hex words, the first of them the number of the call.
+// Answers the stored calls of `stdin` anew, and `stdout` has what the answers must be, so that the two can
+// be compared where no Rust is at hand. tests/differential wrote both, and its README.md says how the
+// lines read: a call a line, hex words, the first of them the number of the call.
+//
+// What the unchanged Rust answered: the lines of calls 1 to 4 whole; of the others, on an accepted page,
+// the rulings of 5, the tables and the free list of 6, the boxes of 7, the raster, the place and the
+// rectangle of 10 to 12, and in every line of 9 the first word, whether `validate` accepts.
+// What is the driver's own: the number of the first missed question, and what a refused page answers beside
+// it; the closed sets, by a flood fill (the ends and members of 5, 6 and 8, the set numbers of 6 and 8),
+// and the reading order of 8, by a plain sort. The sets that 8 names as grids are those that the Rust finds.
 use words::Word;
 
 mod floats;
 mod glyphs;
+mod levelling;
 mod pages;
 mod pieces;
 mod rulings;
@@ -41,7 +49,8 @@ fn answer(text: &[u8], at: usize) -> usize {
         2 => print(floats::round_output(text, next)),
         3 => print(floats::rounded_product(text, next)),
         4 => print(floats::round(text, next)),
-        5..=8 => pages::page(text, next, number),
+        5..=9 => pages::page(text, next, number),
+        10..=12 => levelling::page(text, next, number),
         _ => text.len(),
     }
 }

@@ -2,11 +2,12 @@
 // 25 floats, then the five counts, each in the settings' order; a call without a picture has sides 0.
 use crate::floats;
 use crate::words;
+use crate::words::Word;
+use crate::written;
 use params::settings::RulingsParams;
 
-// The number of the call, what it is given, and the place past that.
+// What a call is given, and the place past that.
 pub struct Given {
-    pub call: u64,
     pub w: usize,
     pub h: usize,
     pub dpi: u16,
@@ -15,53 +16,74 @@ pub struct Given {
     pub next: usize,
 }
 
-pub fn read(text: &[u8], at: usize, call: u64) -> Given {
+pub fn read(text: &[u8], at: usize) -> Given {
     let w = words::read_word(text, at);
     let h = words::read_word(text, w.next);
     let dpi = words::read_word(text, h.next);
     let xheight = words::read_word(text, dpi.next);
     let mut floats = [0.0; 25];
     let mut counts = [0; 5];
-    let behind = floats::read_floats(text, xheight.next, &mut floats);
-    let next = words::read_wholes(text, behind, &mut counts);
+    let all_floats = Word {
+        value: 25,
+        next: xheight.next,
+    };
+    let read = floats::read_floats(text, all_floats, &mut floats);
+    let all_counts = Word {
+        value: 5,
+        next: read.next,
+    };
+    let behind = words::read_wholes(text, all_counts, &mut counts);
     Given {
-        call,
         w: w.value as usize,
         h: h.value as usize,
         dpi: words::short_of(dpi.value),
         xheight: floats::float_of(xheight.value),
-        p: RulingsParams {
-            merge_across_xh: floats[0],
-            merge_gap_xh: floats[1],
-            rule_min_contrast: floats[2],
-            fold_min_length_in: floats[3],
-            join_tol_xh: floats[4],
-            table_min_horizontal: counts[0],
-            table_min_vertical: counts[1],
-            line_cluster_xh: floats[5],
-            table_prior: floats[6],
-            table_cells_coef: floats[7],
-            table_cells_cap: floats[8],
-            table_junction_coef: floats[9],
-            min_free_rules: counts[2],
-            free_rules_prior: floats[10],
-            free_rules_coef: floats[11],
-            free_rules_cap: floats[12],
-            box_min_xh: floats[13],
-            box_min_in: floats[14],
-            box_max_xh: floats[15],
-            box_overshoot_fraction: floats[16],
-            box_aspect_tol: floats[17],
-            box_tolerance_px: counts[3],
-            box_edge_coverage: floats[18],
-            box_max_inner_ink: floats[19],
-            box_checked_ink: floats[20],
-            grid_align_xh: floats[21],
-            grid_min_boxes: counts[4],
-            grid_prior: floats[22],
-            grid_coef: floats[23],
-            grid_cap: floats[24],
-        },
-        next,
+        p: settings_of(&floats, &counts),
+        next: behind.next,
     }
+}
+
+fn settings_of(floats: &[f64; 25], counts: &[u32; 5]) -> RulingsParams {
+    RulingsParams {
+        merge_across_xh: floats[0],
+        merge_gap_xh: floats[1],
+        rule_min_contrast: floats[2],
+        fold_min_length_in: floats[3],
+        join_tol_xh: floats[4],
+        table_min_horizontal: counts[0],
+        table_min_vertical: counts[1],
+        line_cluster_xh: floats[5],
+        table_prior: floats[6],
+        table_cells_coef: floats[7],
+        table_cells_cap: floats[8],
+        table_junction_coef: floats[9],
+        min_free_rules: counts[2],
+        free_rules_prior: floats[10],
+        free_rules_coef: floats[11],
+        free_rules_cap: floats[12],
+        box_min_xh: floats[13],
+        box_min_in: floats[14],
+        box_max_xh: floats[15],
+        box_overshoot_fraction: floats[16],
+        box_aspect_tol: floats[17],
+        box_tolerance_px: counts[3],
+        box_edge_coverage: floats[18],
+        box_max_inner_ink: floats[19],
+        box_checked_ink: floats[20],
+        grid_align_xh: floats[21],
+        grid_min_boxes: counts[4],
+        grid_prior: floats[22],
+        grid_coef: floats[23],
+        grid_cap: floats[24],
+    }
+}
+
+// Answers to `validate`: 1 where it accepts, and the number of the first missed question, which is 13 for
+// settings that it accepts and that let `min_free_rules` be 0.
+pub fn answer(given: Given) {
+    let accepted = params::validate::validate(given.p) == 0;
+    let number = params::validate::missed_by_settings(given.p);
+    written::word(if accepted { 1 } else { 0 });
+    written::word(number as u64);
+    written::end();
 }

@@ -1,5 +1,6 @@
 // The words of the stored calls: hex digits, ended by one byte that is none.
 ghost use Prim.Native.Nat.{_≤_};
+ghost use lib.ListN.{length};
 
 // A word's value, and the place past it and the byte that ends it.
 pub struct Word {
@@ -62,28 +63,67 @@ fn byte_of(value: u64) -> u8 {
     (value % 256) as u8
 }
 
-// Fills `out` with the numbers of the words from `at` on, and returns the place past them.
-pub fn read_wholes(text: &[u8], at: usize, out: &mut [u32]) -> usize {
-    let mut next = at;
+// The number of 32 bits in two's complement.
+fn signed_of(value: u64) -> i32 {
+    let low = value % 0x1_0000_0000;
+    if low < 0x8000_0000 {
+        low as i32
+    } else {
+        !((0xffff_ffff - low) as i32)
+    }
+}
+
+// How many entries of a list were read, and the place past them.
+pub struct Listed {
+    pub count: usize,
+    pub next: usize,
+}
+
+// Fills the front of `out` with numbers, as many as `count` says or as there is room for: its value is
+// the count of the list, and its next place is where the entries begin.
+pub fn read_wholes(text: &[u8], count: Word, out: &mut [u32]) -> Listed
+    ensures { λ r. ⌜ r .count ≤ length (now (out .exit)) ⌝ }
+{
+    let n = at_most(count.value, out.len());
+    let mut next = count.next;
     let mut i = 0;
-    while i < out.len() {
+    while i < n {
         let w = read_word(text, next);
         out[i] = whole_of(w.value);
         next = w.next;
         i += 1;
     }
-    next
+    Listed { count: n, next }
+}
+
+// The same for numbers with a sign.
+pub fn read_signed(text: &[u8], count: Word, out: &mut [i32]) -> Listed
+    ensures { λ r. ⌜ r .count ≤ length (now (out .exit)) ⌝ }
+{
+    let n = at_most(count.value, out.len());
+    let mut next = count.next;
+    let mut i = 0;
+    while i < n {
+        let w = read_word(text, next);
+        out[i] = signed_of(w.value);
+        next = w.next;
+        i += 1;
+    }
+    Listed { count: n, next }
 }
 
 // The same for bytes.
-pub fn read_bytes(text: &[u8], at: usize, out: &mut [u8]) -> usize {
-    let mut next = at;
+pub fn read_bytes(text: &[u8], count: Word, out: &mut [u8]) -> Listed
+    ensures { λ r. ⌜ r .count ≤ length (now (out .exit)) ⌝ }
+{
+    let n = at_most(count.value, out.len());
+    let mut next = count.next;
     let mut i = 0;
-    while i < out.len() {
+    while i < n {
         let w = read_word(text, next);
         out[i] = byte_of(w.value);
         next = w.next;
         i += 1;
     }
-    next
+    Listed { count: n, next }
 }

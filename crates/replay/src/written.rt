@@ -24,6 +24,21 @@ fn wide(x: u32) -> u64 {
     x as u64
 }
 
+// The same for bytes.
+pub fn bytes(list: &[u8], n: usize) {
+    let mut i = 0;
+    while i < list.len() {
+        if i < n {
+            word(wide_byte(list[i]));
+        }
+        i += 1;
+    }
+}
+
+fn wide_byte(x: u8) -> u64 {
+    x as u64
+}
+
 // The bits of the first `n` floats, or of all of them.
 pub fn floats(list: &[f64], n: usize) {
     let mut i = 0;

@@ -80,7 +80,7 @@ pub fn rect_to_page(random: &mut Random, count: u64) -> Tally {
 }
 
 /// The number of the first missed question of document 01, said here in plain Rust.
-fn level_question(page: &Page, room: usize) -> u32 {
+pub fn level_question(page: &Page, room: usize) -> u32 {
     let grey = page.gray.len() as u128 == page.page_width as u128 * page.page_height as u128;
     match tables_question(page, grey) {
         0 if room as u128 != page.width as u128 * page.height as u128 => 14,
@@ -88,7 +88,7 @@ fn level_question(page: &Page, room: usize) -> u32 {
     }
 }
 
-fn map_question(page: &Page, [x0, y0, x1, y1]: [u32; 4]) -> u32 {
+pub fn map_question(page: &Page, [x0, y0, x1, y1]: [u32; 4]) -> u32 {
     let inside = (x1 as usize) < page.width && (y1 as usize) < page.height;
     match tables_question(page, true) {
         0 if !(x0 <= x1 && y0 <= y1 && inside) => 6,
@@ -119,7 +119,7 @@ fn tables_question(page: &Page, grey: bool) -> u32 {
 }
 
 /// Every other page is one that all questions accept; each of the others is spoilt up to three times.
-fn page(random: &mut Random, case: u64) -> Page {
+pub fn page(random: &mut Random, case: u64) -> Page {
     let mut page = accepted(random, case % 5_000 == 4_999);
     if case % 2 == 1 {
         for _ in 0..=random.below(3) {
@@ -226,7 +226,7 @@ fn set_entry(random: &mut Random, table: &mut [i32], limit: i32) {
 }
 
 /// A coordinate: the ends more often, and now and then past the last.
-fn along(random: &mut Random, side: usize) -> u32 {
+pub fn along(random: &mut Random, side: usize) -> u32 {
     let side = side.min(1 << 20) as u32;
     match random.below(16) {
         0 => side,
@@ -237,7 +237,7 @@ fn along(random: &mut Random, side: usize) -> u32 {
     }
 }
 
-fn rectangle(random: &mut Random, page: &Page) -> [u32; 4] {
+pub fn rectangle(random: &mut Random, page: &Page) -> [u32; 4] {
     let (a, b) = (along(random, page.width), along(random, page.width));
     let (c, d) = (along(random, page.height), along(random, page.height));
     match random.below(12) {

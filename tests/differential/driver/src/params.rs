@@ -173,7 +173,7 @@ fn box_sizes() -> Vec<RulingsParams> {
 }
 
 /// Valid settings with up to four fields moved, and sometimes the largest box beside the smallest.
-fn changed(random: &mut Random) -> RulingsParams {
+pub fn changed(random: &mut Random) -> RulingsParams {
     let mut p = VALID;
     for _ in 0..random.below(4) {
         let field = random.below(25) as usize;

@@ -8,7 +8,9 @@ use pagetriage::math;
 
 use crate::floats;
 use crate::random::Random;
+use crate::replay_levelling as levelling;
 use crate::replay_pages as pages;
+use crate::replay_settings as settings;
 use crate::tally::{bits, hex, hex_floats};
 use crate::values::LANDMARKS;
 
@@ -69,6 +71,10 @@ pub fn write(dir: &Path) -> io::Result<usize> {
     pages::add_tables(&mut sample, random);
     pages::add_boxes(&mut sample, random);
     pages::add_grids(&mut sample, random);
+    settings::add_validate(&mut sample, random);
+    levelling::add_level_gray(&mut sample, random);
+    levelling::add_to_page(&mut sample, random);
+    levelling::add_rect_to_page(&mut sample, random);
     fs::create_dir_all(dir)?;
     fs::write(dir.join("stdin"), sample.calls)?;
     fs::write(dir.join("stdout"), sample.answers)?;

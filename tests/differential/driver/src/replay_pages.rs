@@ -23,28 +23,28 @@ const ROOM: usize = RECTS / 4;
 
 /// Words in hex, each behind a space.
 #[derive(Default)]
-struct Line(String);
+pub struct Line(pub String);
 
 impl Line {
-    fn word(&mut self, word: u64) {
+    pub fn word(&mut self, word: u64) {
         self.0 += &format!(" {word:x}");
     }
 
-    fn wholes(&mut self, list: &[u32]) {
+    pub fn wholes(&mut self, list: &[u32]) {
         list.iter().for_each(|&x| self.word(x.into()));
     }
 
-    fn floats(&mut self, list: &[f64]) {
+    pub fn floats(&mut self, list: &[f64]) {
         list.iter().for_each(|&x| self.word(bits(x)));
     }
 
-    fn list(&mut self, list: &[u32]) {
+    pub fn list(&mut self, list: &[u32]) {
         self.word(list.len() as u64);
         self.wholes(list);
     }
 
     /// The number of a call and what it is given by value.
-    fn call(number: u64, [w, h, dpi]: [usize; 3], xheight: f64, p: &RulingsParams) -> Self {
+    pub fn call(number: u64, [w, h, dpi]: [usize; 3], xheight: f64, p: &RulingsParams) -> Self {
         let mut line = Line(format!("{number:x} {w:x} {h:x} {dpi:x}"));
         let mut p = *p;
         line.floats(&[xheight]);
@@ -54,7 +54,7 @@ impl Line {
     }
 
     /// The lists that every call has, each empty where it has none.
-    fn lists(mut self, rects: &[u32], directions: &[u32], bytes: &[u8]) -> String {
+    pub fn lists(mut self, rects: &[u32], directions: &[u32], bytes: &[u8]) -> String {
         self.list(rects);
         self.list(directions);
         self.list(&bytes.iter().map(|&x| x.into()).collect::<Vec<_>>());

@@ -1,17 +1,20 @@
--- `replay::floats::read_floats` is safe, and keeps the list's length. Assumes nothing.
-use mathlib.Core.Path.{_≡_, refl, _∙_, subst}
-use Prim.Native.Nat.{ℕ, _-_, _<_}
+-- `replay::floats::read_floats` is safe, keeps the list's length, and reads no more than the list has room for. Assumes nothing.
+use mathlib.Core.Path.{_≡_, refl}
+use Prim.Native.Nat.{_-_}
 use native.Mathlib.Omega.{arith}
 use lib.ListN.{length, length-set}
-use borrow.Author.Needs.{needs, scaled-fits}
+use borrow.Author.Needs.{needs}
 use Rattle.replay.proofs.floats.read_floats.Statement.{statement}
 use Rattle.replay.proofs.floats.read_floats.Tie as tie
 
 abbrev Inv-loop : tie.InvT-loop
-Inv-loop text at out₀ next₀ i₀ out next i = length out ≡ length out₀
+Inv-loop text out₀ n next₀ i₀ out next i = length out ≡ length out₀
 
 abbrev μ-loop : tie.MeasureT-loop
-μ-loop text at out₀ next₀ i₀ out next i = length out - i
+μ-loop text out₀ n next₀ i₀ out next i = n - i
+
+at-most-requires : tie.Need-at-most-requires Inv-loop μ-loop
+at-most-requires c κs = tt
 
 loop-holds : tie.Need-loop-holds Inv-loop μ-loop
 loop-holds c = refl
@@ -22,32 +25,20 @@ read-word-requires c κs = tt
 float-of-requires : tie.Need-float-of-requires Inv-loop μ-loop
 float-of-requires c κs = tt
 
-below : (c : tie.After-float-of Inv-loop μ-loop) → c .before .before .before .loop .i < length (c .before .before .before .before .before .before .args .out .now)
-below c = subst (λ (n : ℕ). c .before .before .before .loop .i < n) (c .before .before .before .loop .inv) (c .before .before .loop-test .taken)
-
 mul-out : tie.Need-mul-out Inv-loop μ-loop
-mul-out c =
-    let at-loop = c .before .before .before in
-    let start = at-loop .before .before .before in
-    scaled-fits (at-loop .loop .i) (length (start .args .out .now)) 8 (below c) (start .good .1 .1 .0 .1)
+mul-out c = search needs
 
 slice-write-out : tie.Need-slice-write-out Inv-loop μ-loop
 slice-write-out c = search needs
 
 add-i : tie.Need-add-i Inv-loop μ-loop
-add-i c = let h = below c in omega (arith, c .before .before .before .before .before .before .good .1 .1 .0 .0)
+add-i c = omega arith
 
 loop-less : tie.Need-loop-less Inv-loop μ-loop
-loop-less c =
-    let at-loop = c .before .before .before in
-    let h = c .before .before .loop-test .taken in
-    let e = length-set (at-loop .loop .out) (at-loop .loop .i) (c .float-of .result) in
-    omega arith
+loop-less c = omega arith
 
 loop-again : tie.Need-loop-again Inv-loop μ-loop
-loop-again c =
-    let at-loop = c .before .before .before in
-    length-set (at-loop .loop .out) (at-loop .loop .i) (c .float-of .result) ∙ at-loop .loop .inv
+loop-again c = simp length-set (c .before .before .before .loop .inv)
 
 same-length : tie.Need-same-length Inv-loop μ-loop
 same-length c = search needs
@@ -56,4 +47,4 @@ returns : tie.Need-returns Inv-loop μ-loop
 returns c = search needs
 
 pub read-floats-spec : {M : Type 1} → statement M
-read-floats-spec = tie.close (tie.spec Inv-loop μ-loop loop-holds read-word-requires float-of-requires mul-out slice-write-out add-i loop-less loop-again same-length returns)
+read-floats-spec = tie.close (tie.spec Inv-loop μ-loop at-most-requires loop-holds read-word-requires float-of-requires mul-out slice-write-out add-i loop-less loop-again same-length returns)

@@ -1,6 +1,6 @@
--- `replay::words::read_bytes` is safe, and keeps the list's length. Assumes nothing.
-use mathlib.Core.Path.{_≡_, refl, _∙_, subst}
-use Prim.Native.Nat.{ℕ, _-_, _<_}
+-- `replay::words::read_bytes` is safe, keeps the list's length, and reads no more than the list has room for. Assumes nothing.
+use mathlib.Core.Path.{_≡_, refl}
+use Prim.Native.Nat.{_-_}
 use native.Mathlib.Omega.{arith}
 use lib.ListN.{length, length-set}
 use borrow.Author.Needs.{needs}
@@ -8,10 +8,13 @@ use Rattle.replay.proofs.words.read_bytes.Statement.{statement}
 use Rattle.replay.proofs.words.read_bytes.Tie as tie
 
 abbrev Inv-loop : tie.InvT-loop
-Inv-loop text at out₀ next₀ i₀ out next i = length out ≡ length out₀
+Inv-loop text out₀ n next₀ i₀ out next i = length out ≡ length out₀
 
 abbrev μ-loop : tie.MeasureT-loop
-μ-loop text at out₀ next₀ i₀ out next i = length out - i
+μ-loop text out₀ n next₀ i₀ out next i = n - i
+
+at-most-requires : tie.Need-at-most-requires Inv-loop μ-loop
+at-most-requires c κs = tt
 
 loop-holds : tie.Need-loop-holds Inv-loop μ-loop
 loop-holds c = refl
@@ -22,26 +25,17 @@ read-word-requires c κs = tt
 byte-of-requires : tie.Need-byte-of-requires Inv-loop μ-loop
 byte-of-requires c κs = tt
 
-below : (c : tie.After-byte-of Inv-loop μ-loop) → c .before .before .before .loop .i < length (c .before .before .before .before .before .before .args .out .now)
-below c = subst (λ (n : ℕ). c .before .before .before .loop .i < n) (c .before .before .before .loop .inv) (c .before .before .loop-test .taken)
-
 slice-write-out : tie.Need-slice-write-out Inv-loop μ-loop
 slice-write-out c = search needs
 
 add-i : tie.Need-add-i Inv-loop μ-loop
-add-i c = let h = below c in omega (arith, c .before .before .before .before .before .before .good .1 .1 .0 .0)
+add-i c = omega arith
 
 loop-less : tie.Need-loop-less Inv-loop μ-loop
-loop-less c =
-    let at-loop = c .before .before .before in
-    let h = c .before .before .loop-test .taken in
-    let e = length-set (at-loop .loop .out) (at-loop .loop .i) (c .byte-of .result) in
-    omega arith
+loop-less c = omega arith
 
 loop-again : tie.Need-loop-again Inv-loop μ-loop
-loop-again c =
-    let at-loop = c .before .before .before in
-    length-set (at-loop .loop .out) (at-loop .loop .i) (c .byte-of .result) ∙ at-loop .loop .inv
+loop-again c = simp length-set (c .before .before .before .loop .inv)
 
 same-length : tie.Need-same-length Inv-loop μ-loop
 same-length c = search needs
@@ -50,4 +44,4 @@ returns : tie.Need-returns Inv-loop μ-loop
 returns c = search needs
 
 pub read-bytes-spec : {M : Type 1} → statement M
-read-bytes-spec = tie.close (tie.spec Inv-loop μ-loop loop-holds read-word-requires byte-of-requires slice-write-out add-i loop-less loop-again same-length returns)
+read-bytes-spec = tie.close (tie.spec Inv-loop μ-loop at-most-requires loop-holds read-word-requires byte-of-requires slice-write-out add-i loop-less loop-again same-length returns)
