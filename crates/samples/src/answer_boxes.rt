@@ -1,4 +1,5 @@
 // A box 16 wide: its inner columns are the middle 8, from 4 to 11.
+use crate::settings;
 use crate::show;
 use params::settings::RulingsParams;
 
@@ -34,7 +35,7 @@ fn mark_with(column: usize) -> u32 {
         1.0,
         &ink,
         &[0, 0, 15, 15],
-        settings(),
+        box_settings(),
         &mut [0; 4],
         &mut marks,
         &mut [0.0],
@@ -55,8 +56,8 @@ fn draw(column: usize, ink: &mut [u8]) {
 }
 
 // The settings of the other samples, but for those that a box needs.
-fn settings() -> RulingsParams {
-    let mut p = crate::contrast::settings();
+fn box_settings() -> RulingsParams {
+    let mut p = settings::settings();
     p.box_max_xh = 16.0;
     p.box_max_inner_ink = 1.0;
     p.box_checked_ink = 0.015625;
