@@ -1,0 +1,2 @@
+-- Why the findings by value are right.
+pub mod Scores
