@@ -1,14 +1,15 @@
--- A part of a list by its bounds: a set that has a member starts where the one before it ends. Assumes nothing.
-use mathlib.Core.Path.{_≡_, refl, sym, ap}
+-- A part of a list by its bounds: a set that has a member starts where the one before it ends.
+use mathlib.Core.Path.{_≡_, refl, sym, ap, _∙_}
 use mathlib.Core.Bool.{Bool, true, false, cond, _&&_}
 use mathlib.Core.List.{List, [], _∷_}
-use Prim.Native.Nat.{ℕ, zero, suc, _-_, _<_}
+use Prim.Native.Nat.{ℕ, zero, suc, _+_, _-_, _≤_, _<_}
 use native.Mathlib.Omega.{arith}
 use lib.Dec.{leb, ltb}
-use lib.ListN.{length, getD, take, drop}
-use borrow.Author.Tests.{ltb-true}
+use lib.ListN.{length, getD, take, drop, length-take, length-drop}
+use borrow.Author.Tests.{ltb-true, leb-true, ne-eqb}
 use Rattle.lists.proofs.Every.{and-first, and-second}
 use Rattle.sets.specs.Listing.{startOf, membersOf}
+use Rattle.lanegravel.specs.MembersOf.{PartOf}
 
 -- as many entries as a part has are the part
 take-size : (n : ℕ) (xs : List ℕ) → take (length (take n xs)) xs ≡ take n xs
@@ -23,27 +24,51 @@ none (x ∷ xs) h = absurd (never (length xs) h)
     never : (n : ℕ) → suc n ≡ 0 → ⊥
     never n e = omega arith
 
-pub empty-part : (members ends : List ℕ) (count k : ℕ) → length (membersOf members ends count k) ≡ 0 → take 0 (drop 0 members) ≡ membersOf members ends count k
-empty-part members ends count k h = none (membersOf members ends count k) h
+module _ (members ends : List ℕ) (count k : ℕ) where
+  abbrev start : ℕ
+  start = startOf ends k
 
--- a set with a member: its number is inside, and it is as many entries as it has from its start on
-pub record Full (members ends : List ℕ) (count k : ℕ) : Type 0 where
-  pub inside : k < length ends
-  pub part : take (length (membersOf members ends count k)) (drop (startOf ends k) members) ≡ membersOf members ends count k
+  -- the part, where its bounds were tested
+  abbrev tested : Bool → List ℕ
+  tested t = cond t (take (getD ends k 0 - start) (drop start members)) []
 
-pub full-part : (members ends : List ℕ) (count k : ℕ) → (length (membersOf members ends count k) ≡ 0 → ⊥) → Full members ends count k
-full-part members ends count k h =
-    let a = ltb k count in
-    let b = ltb k (length ends) in
-    let c = leb (startOf ends k) (getD ends k 0) in
-    let d = leb (getD ends k 0) (length members) in
-    let r = go (a && b && c && d) (λ t. ltb-true k (length ends) (and-second a b (and-first (a && b) c (and-first (a && b && c) d t)))) h in
-    record { inside = r .0; part = r .1 }
-  where
-    go : (t : Bool) → (t ≡ true → k < length ends) → (length (cond t (take (getD ends k 0 - startOf ends k) (drop (startOf ends k) members)) []) ≡ 0 → ⊥)
-        → (k < length ends) × (take (length (cond t (take (getD ends k 0 - startOf ends k) (drop (startOf ends k) members)) [])) (drop (startOf ends k) members) ≡ cond t (take (getD ends k 0 - startOf ends k) (drop (startOf ends k) members)) [])
-    go true i h = (i refl, take-size (getD ends k 0 - startOf ends k) (drop (startOf ends k) members))
-    go false i h = absurd (h refl)
+  -- what the test says, where the part has a member
+  pub record Full (found : List ℕ) : Type 0 where
+    pub number : k < length ends
+    pub inside : start + length found ≤ length members
+    pub part : take (length found) (drop start members) ≡ found
+
+  pub full-part : (length (membersOf members ends count k) ≡ 0 → ⊥) → Full (membersOf members ends count k)
+  full-part h =
+      let a = ltb k count in
+      let b = ltb k (length ends) in
+      let c = leb start (getD ends k 0) in
+      let d = leb (getD ends k 0) (length members) in
+      go (a && b && c && d) (λ t. ltb-true k (length ends) (and-second a b (and-first (a && b) c (and-first (a && b && c) d t))))
+      (λ t. leb-true start (getD ends k 0) (and-second (a && b) c (and-first (a && b && c) d t)))
+      (λ t. leb-true (getD ends k 0) (length members) (and-second (a && b && c) d t)) h
+    where
+      go : (t : Bool) → (t ≡ true → k < length ends) → (t ≡ true → start ≤ getD ends k 0) → (t ≡ true → getD ends k 0 ≤ length members) → (length (tested t) ≡ 0 → ⊥) → Full (tested t)
+      go true i low high h =
+          let l = length-take (getD ends k 0 - start) (drop start members) in
+          let m = length-drop start members in
+          record { number = i refl; inside = omega (arith, low refl, high refl); part = take-size (getD ends k 0 - start) (drop start members) }
+      go false i low high h = absurd (h refl)
+
+  pub empty-bounds : length (membersOf members ends count k) ≡ 0 → PartOf members ends count k (record { start = 0; count = 0 })
+  empty-bounds h = record { size = sym h; inside = omega arith; begins = refl; part = none (membersOf members ends count k) h }
+
+  -- the bounds by the part that was found, which has a member, and a start
+  pub full-bounds : (found : List ℕ) (s : ℕ) → found ≡ membersOf members ends count k → (length found ≡ 0 → ⊥) → s ≡ startOf ends k
+      → PartOf members ends count k (record { start = s; count = length found })
+  full-bounds found s e h b =
+      let f = full-part (λ z. h (ap length e ∙ z)) in
+      record {
+        size = ap length e;
+        inside = rw e (rw b (f .inside));
+        begins = b ∙ ap (λ (t : Bool). cond t 0 (startOf ends k)) (sym (ne-eqb (length found) 0 h));
+        part = rw e (rw b (f .part));
+      }
 
 -- where a set past the first starts
 pub start-past : (ends : List ℕ) (k : ℕ) → (k ≡ 0 → ⊥) → getD ends (k - 1) 0 ≡ startOf ends k

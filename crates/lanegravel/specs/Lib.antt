@@ -1,2 +1,3 @@
 -- What a reader must believe of the exported calls, beside the definitions of the crates below.
 pub mod Mapped
+pub mod MembersOf

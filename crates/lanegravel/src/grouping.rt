@@ -1,11 +1,9 @@
-// Closed sets and order (crates `gaps`, `pairs`, `sets` and `order`).
-ghost use mathlib.Core.Path.{_≡_};
-ghost use lib.ListN.{length, take, drop};
+// Closed sets and order (crates `gaps`, `pairs` and `order`).
+ghost use lib.ListN.{length};
 ghost use Rattle.lists.specs.Lists.{roomFor};
 ghost use Rattle.gaps.specs.Gaps.{GapSets};
 ghost use Rattle.pairs.specs.Pairs.{PairSets};
 ghost use Rattle.order.specs.Order.{Sorts};
-ghost use Rattle.sets.specs.Listing.{membersOf};
 
 #[no_mangle]
 pub extern "C" fn lanegravel_gap_sets(
@@ -47,38 +45,4 @@ pub extern "C" fn lanegravel_sort_indexes(keys: &[u64], out: &mut [u32], work: &
     ensures { λ r. ⌜ Sorts (now (keys .entry)) (now (out .entry)) (now (work .entry)) (now (out .exit)) (now (work .exit)) r ⌝ }
 {
     order::sort_indexes(keys, out, work)
-}
-
-// A part of a lent list: where it starts, and how many entries it has.
-#[repr(C)]
-pub struct Part {
-    pub start: usize,
-    pub count: usize,
-}
-
-// A C function can't return a slice, so the part is given by its bounds.
-#[no_mangle]
-pub extern "C" fn lanegravel_members_of(
-    members: &[u32],
-    ends: &[u32],
-    count: usize,
-    set: usize,
-) -> Part
-    ensures { λ r. ⌜ take (r .count) (drop (r .start) (now (members .entry))) ≡ membersOf (now (members .entry)) (now (ends .entry)) count set ⌝ }
-{
-    let part = sets::members_of(members, ends, count, set);
-    let size = part.len();
-    if size == 0 {
-        return Part { start: 0, count: 0 };
-    }
-    if set == 0 {
-        return Part {
-            start: 0,
-            count: size,
-        };
-    }
-    Part {
-        start: ends[set - 1] as usize,
-        count: size,
-    }
 }

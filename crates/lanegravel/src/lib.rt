@@ -6,5 +6,6 @@ mod grid_call;
 mod grouping;
 mod joining;
 mod levelling;
+mod members_of_call;
 mod settings;
 mod table_call;
