@@ -2,3 +2,4 @@
 pub mod Bundle
 pub mod Placed
 pub mod Storing
+pub mod Writing

@@ -2,9 +2,10 @@
 ghost use mathlib.Core.Path.{_≡_};
 ghost use mathlib.Core.List.{[], _∷_, map};
 ghost use Prim.Native.Nat.{_+_, _<_, _^_};
+ghost use lib.ListN.{length, getD};
 ghost use Rattle.evidence.specs.Finding.{rowOf};
 ghost use Rattle.finding_lists.specs.Columns.{fact, score};
-ghost use Rattle.finding_lists.specs.Steps.{EachLong, EachSet, Roomy, Stored};
+ghost use Rattle.finding_lists.specs.Steps.{EachLong, EachSet, Roomy, Stored, WroteOne};
 use evidence::finding::Finding;
 use evidence::finding::Row;
 use layout::rect::PageRect;
@@ -64,4 +65,22 @@ pub fn put(
     rects::put_rect(rects, i, numbers(on_page));
     put_facts(row, i, facts);
     put_scores(row, i, scores);
+}
+
+// Stores a finding at rank k of those given, and tells whether every evidence number of it is finite.
+pub fn put_ranked(
+    f: Finding,
+    ranks: &[u32],
+    k: usize,
+    rects: &mut [u32],
+    facts: &mut [&mut [u32]; 4],
+    scores: &mut [&mut [f64]; 8],
+) -> bool
+    requires { ⌜ (k < length (now ranks)) × Roomy (getD (now ranks) k 0 + 1) (record { rects = now rects; facts = map now (now facts); scores = map now (now scores) }) ⌝ }
+    ensures { λ r. ⌜ WroteOne f (getD (now (ranks .entry)) k 0)
+        (record { rects = now (rects .entry); facts = map now (now (facts .entry)); scores = map now (now (scores .entry)) })
+        (record { rects = now (rects .exit); facts = map now (now (facts .exit)); scores = map now (now (scores .exit)) }) r ⌝ }
+{
+    put(f, ranks[k] as usize, rects, facts, scores);
+    evidence::finding::is_finite(f)
 }

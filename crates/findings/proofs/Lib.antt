@@ -1,0 +1,4 @@
+-- Why the findings are right: laws that belong to no one function.
+pub mod Fronts
+pub mod OnPage
+pub mod KeyLoop

@@ -1,0 +1,49 @@
+-- The order of findings: stably by page y0, x0, kind number.
+use mathlib.Core.Path.{_≡_}
+use mathlib.Core.Logic.{_⊎_}
+use mathlib.Core.List.{List, map}
+use Prim.Native.Nat.{ℕ, _+_, _-_, _*_, _<_}
+use lib.IntN.{ℤ}
+use lib.ListN.{getD}
+use Rattle.order.specs.Order.{sortedIndexes}
+use Rattle.rects.specs.Rects.{rectAt}
+use Rattle.rects.specs.Around.{around}
+use Rattle.layout.specs.declared.sides.Sides.{Sides}
+use Rattle.layout.specs.declared.rect.PageRect.{PageRect}
+use Rattle.layout.specs.ToPage.{rectToPage}
+use Rattle.evidence.specs.declared.finding.Finding.{Finding}
+use Rattle.evidence.specs.Finding.{kindNumber}
+
+-- One finding stands before another by page y0, x0, kind number.
+abbrev pub Sooner : Finding → Finding → Type 0
+Sooner f g =
+    (f .bbox .y0 < g .bbox .y0)
+    ⊎ ((f .bbox .y0 ≡ g .bbox .y0)
+    × ((f .bbox .x0 < g .bbox .x0) ⊎ ((f .bbox .x0 ≡ g .bbox .x0) × (kindNumber (f .kind) < kindNumber (g .kind)))))
+
+-- y0, x0 and the kind's number as one number. Of page coordinates below 8,192 it orders as the three do one after the other (`key-sooner`).
+abbrev pub pageKey : PageRect → ℕ → ℕ
+pageKey r kind = (r .y0 * 8192 + r .x0) * 4 + (kind - 16)
+
+abbrev pub keyOf : Finding → ℕ
+keyOf f = pageKey (f .bbox) (kindNumber (f .kind))
+
+-- The key of the finding of table k, by its rectangle.
+abbrev pub tableKey : Sides → List ℤ → List ℤ → List ℕ → ℕ → ℕ
+tableKey sides shear shear-x bounds k = pageKey (rectToPage sides shear shear-x (rectAt bounds k)) 16
+
+-- The key of the finding of the free rulings at some places.
+abbrev pub freeKey : Sides → List ℤ → List ℤ → List ℕ → List ℕ → ℕ
+freeKey sides shear shear-x rects places = pageKey (rectToPage sides shear shear-x (around rects places)) 17
+
+-- The key of the finding of the fold that is the ruling at a place.
+abbrev pub foldKey : Sides → List ℤ → List ℤ → List ℕ → ℕ → ℕ
+foldKey sides shear shear-x rects place = pageKey (rectToPage sides shear shear-x (rectAt rects place)) 19
+
+-- The key of the finding of the grid that is a set of boxes.
+abbrev pub gridKey : Sides → List ℤ → List ℤ → List ℕ → List ℕ → ℕ
+gridKey sides shear shear-x rects set = pageKey (rectToPage sides shear shear-x (around rects set)) 18
+
+-- The findings of a list stably sorted by key; `none` is no finding of the list.
+unfoldable pub inOrder : Finding → List Finding → List Finding
+inOrder none fs = map (λ k. getD fs k none) (sortedIndexes (map keyOf fs))

@@ -1,0 +1,143 @@
+-- Document 01's findings: one for each table, one for the free rules if there are enough, one for each fold, one for each grid.
+use mathlib.Core.Bool.{Bool, not, cond}
+use mathlib.Core.List.{List, [], _∷_, _++_, map}
+use Prim.Native.Nat.{ℕ, max}
+use lib.Dec.{eqb, leb}
+use lib.IntN.{ℤ}
+use lib.Ieee.{Float, nan, binary64, div}
+use lib.ListN.{length, getD}
+use Rattle.lists.specs.Lists.{below, keep}
+use Rattle.math.specs.Sum.{pairwiseSum, valuesAt, whole}
+use Rattle.rects.specs.declared.Rect.{Rect}
+use Rattle.rects.specs.Rects.{widthOf, heightOf, rectAt, count}
+use Rattle.rects.specs.Around.{around}
+use Rattle.layout.specs.declared.sides.Sides.{Sides}
+use Rattle.layout.specs.declared.rect.PageRect.{PageRect}
+use Rattle.layout.specs.ToPage.{rectToPage}
+use Rattle.params.specs.declared.settings.RulingsParams.{RulingsParams}
+use Rattle.params.specs.declared.settings.FusionParams.{FusionParams}
+use Rattle.evidence.specs.declared.finding.Finding.{Finding}
+use Rattle.evidence.specs.Kinds.{inchesOf, isFold, tableFinding, freeFinding, gridFinding, foldFinding}
+
+-- What findings are scored by: the way back to the page, the settings and the caps.
+pub record Scan : Type 0 where
+  pub sides : Sides
+  pub shear : List ℤ
+  pub shear-x : List ℤ
+  pub settings : RulingsParams
+  pub caps : FusionParams
+
+-- The rulings.
+pub record Rulings : Type 0 where
+  pub rects : List ℕ
+  pub directions : List ℕ
+  pub contrasts : List Float
+
+-- The tables.
+pub record Tables : Type 0 where
+  pub bounds : List ℕ
+  pub rows : List ℕ
+  pub columns : List ℕ
+  pub rulings : List ℕ
+  pub shares : List Float
+
+-- The boxes, their sets by number, and the numbers of the sets that are grids.
+pub record Boxes : Type 0 where
+  pub rects : List ℕ
+  pub marks : List ℕ
+  pub coverages : List Float
+  pub set : ℕ → List ℕ
+  pub grids : List ℕ
+
+-- A rectangle's place on the page.
+abbrev pub onPage : Scan → Rect → PageRect
+onPage s r = rectToPage (s .sides) (s .shear) (s .shear-x) r
+
+-- A ruling is horizontal where its direction is 0; its length runs along it.
+abbrev pub lying : List ℕ → ℕ → Bool
+lying directions k = eqb (getD directions k 0) 0
+
+abbrev pub lengthOf : Rect → Bool → ℕ
+lengthOf r horizontal = cond horizontal (widthOf r) (heightOf r)
+
+abbrev pub lengthAt : List ℕ → List ℕ → ℕ → ℕ
+lengthAt rects directions k = lengthOf (rectAt rects k) (lying directions k)
+
+-- The mean of the values at some places: their pairwise sum in the listed order over their number.
+abbrev pub meanAt : List Float → List ℕ → Float
+meanAt values places = div binary64 (pairwiseSum (valuesAt values places)) (whole (length places))
+
+-- The greatest of some numbers; 0 for none.
+unfoldable pub greatestOf : List ℕ → ℕ
+greatestOf [] = 0
+greatestOf (n ∷ ns) = max n (greatestOf ns)
+
+-- ---- tables
+
+unfoldable pub tableAt : Scan → Tables → ℕ → Finding
+tableAt s t k =
+    tableFinding (s .settings) (s .caps) (onPage s (rectAt (t .bounds) k)) (getD (t .rows) k 0) (getD (t .columns) k 0) (getD (t .rulings) k 0) (getD (t .shares) k nan)
+
+abbrev pub tableFindings : Scan → Tables → List Finding
+tableFindings s t = map (tableAt s t) (below (count (t .bounds)))
+
+-- ---- free rules
+
+-- The places of the free rulings among all rulings, in the order of the free list, whose entries are places among the printed ones.
+abbrev pub freePlaces : List ℕ → List ℕ → List ℕ
+freePlaces printed free = map (λ i. getD printed i 0) free
+
+-- Of the rulings at some places: how many are horizontal, how many vertical, and the longest one's length.
+abbrev pub horizontals : Rulings → List ℕ → ℕ
+horizontals r places = length (keep (lying (r .directions)) places)
+
+abbrev pub verticals : Rulings → List ℕ → ℕ
+verticals r places = length (keep (λ k. not (lying (r .directions) k)) places)
+
+abbrev pub longest : Rulings → List ℕ → ℕ
+longest r places = greatestOf (map (lengthAt (r .rects) (r .directions)) places)
+
+unfoldable pub freeOf : Scan → Rulings → List ℕ → Finding
+unfolding greatestOf
+freeOf s r places =
+    freeFinding (s .settings) (s .caps) (onPage s (around (r .rects) places)) (length places) (horizontals r places) (verticals r places) (longest r places)
+    (meanAt (r .contrasts) places)
+
+-- One finding if at least min_free_rules rulings are free.
+abbrev pub freeFindings : Scan → Rulings → List ℕ → List ℕ → List Finding
+freeFindings s r printed free = cond (leb (s .settings .«min_free_rules») (length free)) (freeOf s r (freePlaces printed free) ∷ []) []
+
+-- ---- folds
+
+abbrev pub foldInches : ℕ → List ℕ → List ℕ → ℕ → Float
+foldInches dpi rects directions k = inchesOf (lengthAt rects directions k) dpi
+
+-- The faint rulings of at least fold_min_length_in.
+abbrev pub folds : RulingsParams → ℕ → List ℕ → List ℕ → List ℕ → List ℕ
+folds p dpi rects directions faint = keep (λ k. isFold p (foldInches dpi rects directions k)) faint
+
+unfoldable pub foldAt : Scan → ℕ → Rulings → ℕ → Finding
+foldAt s dpi r k =
+    foldFinding (s .settings) (s .caps) (onPage s (rectAt (r .rects) k)) (not (lying (r .directions) k)) (foldInches dpi (r .rects) (r .directions) k) (getD (r .contrasts) k nan)
+
+abbrev pub foldFindings : Scan → ℕ → Rulings → List ℕ → List Finding
+foldFindings s dpi r faint = map (foldAt s dpi r) (folds (s .settings) dpi (r .rects) (r .directions) faint)
+
+-- ---- grids
+
+-- How many boxes of a set are ticked: those with mark 1.
+abbrev pub ticked : List ℕ → List ℕ → ℕ
+ticked marks set = length (keep (λ i. eqb (getD marks i 0) 1) set)
+
+unfoldable pub gridOf : Scan → Boxes → List ℕ → Finding
+gridOf s b set =
+    gridFinding (s .settings) (s .caps) (onPage s (around (b .rects) set)) (length set) (ticked (b .marks) set) (meanAt (b .coverages) set)
+
+abbrev pub gridFindings : Scan → Boxes → List Finding
+gridFindings s b = map (λ n. gridOf s b (b .set n)) (b .grids)
+
+-- ---- all
+
+-- The findings in the order in which they are made: tables, free rules, folds, grids.
+abbrev pub made : Scan → ℕ → Rulings → List ℕ → List ℕ → Tables → List ℕ → Boxes → List Finding
+made s dpi r printed faint t free b = (tableFindings s t ++ freeFindings s r printed free ++ foldFindings s dpi r faint) ++ gridFindings s b

@@ -1,0 +1,50 @@
+-- What the functions of `findings` ask and leave; none of it is needed to read what a page's findings are.
+use mathlib.Core.Path.{_≡_}
+use mathlib.Core.List.{List}
+use Prim.Native.Nat.{ℕ, _*_, _+_, _≤_, _<_}
+use lib.IntN.{ℤ}
+use lib.Ieee.{Float}
+use lib.ListN.{length, getD}
+use Rattle.lists.specs.Lists.{written}
+use Rattle.math.specs.Sum.{PlacesIn}
+use Rattle.rects.specs.declared.Rect.{Rect}
+use Rattle.rects.specs.Rects.{count, rectAt, Inside, AllInside}
+use Rattle.layout.specs.declared.sides.Sides.{Sides}
+use Rattle.layout.specs.Tables.{Sheared}
+
+-- The way back to the page is known: the tables pass their questions, and a picture that has a rectangle has a page.
+pub record Mapping (sides : Sides) (shear shear-x : List ℤ) : Type 0 where
+  pub sheared : Sheared sides shear shear-x
+  pub paged : (r : Rect) → Inside (sides .w) (sides .h) r → (1 ≤ sides .pw) × (1 ≤ sides .ph)
+
+-- Each of some places has an entry in a list of numbers.
+pub record NumbersGiven (numbers places : List ℕ) : Type 0 where
+  pub few : length places ≤ 16384
+  pub number : (k : ℕ) → k < length places → getD places k 0 < length numbers
+
+-- Each of some places has a rectangle inside the picture, and an entry in a list of numbers.
+pub record PlacesGiven (w h : ℕ) (rects numbers places : List ℕ) : Type 0 where
+  pub entries : NumbersGiven numbers places
+  pub rect : (k : ℕ) → k < length places → 4 * getD places k 0 + 4 ≤ length rects
+  pub inside : (k : ℕ) → k < length places → Inside w h (rectAt rects (getD places k 0))
+
+-- Each of some places has a value beside.
+pub record AllGiven (w h : ℕ) (rects numbers : List ℕ) (values : List Float) (places : List ℕ) : Type 0 where
+  pub given : PlacesGiven w h rects numbers places
+  pub value : PlacesIn values places
+
+-- Some numbers were listed from the front of a list, and how many there are.
+pub record Front (xs lent lent′ : List ℕ) (n : ℕ) : Type 0 where
+  pub count : n ≡ length xs
+  pub list : lent′ ≡ written xs lent
+
+-- Every table has its rectangle inside the picture and an entry in each list, with at most 4,096 rows and as many columns.
+pub record TablesGiven (w h : ℕ) (bounds rows columns rulings : List ℕ) (shares : List Float) : Type 0 where
+  pub inside : AllInside w h bounds
+  pub few : count bounds ≤ 4096
+  pub rows-long : count bounds ≤ length rows
+  pub columns-long : count bounds ≤ length columns
+  pub rulings-long : count bounds ≤ length rulings
+  pub shares-long : count bounds ≤ length shares
+  pub rows-few : (k : ℕ) → k < count bounds → getD rows k 0 ≤ 4096
+  pub columns-few : (k : ℕ) → k < count bounds → getD columns k 0 ≤ 4096
