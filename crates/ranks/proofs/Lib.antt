@@ -1,0 +1,4 @@
+-- Why the ranks are right: laws that belong to no one function.
+pub mod Laws
+pub mod Merging
+pub mod Joined
