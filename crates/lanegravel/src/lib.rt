@@ -1,11 +1,14 @@
-// The exported calls. Each is thin: it has the contract of the function that it calls, and no
-// `requires`, so nothing has to be vetted before a call. include/lanegravel.h declares them for C.
-mod box_call;
+// The exported calls, a module each, named by its call; the float steps stand together. Each is thin:
+// it has the contract of the function that it calls, and no `requires`, so nothing has to be vetted
+// before a call. include/lanegravel.h declares them for C.
+mod box_grids_call;
+mod boxes_call;
 mod floats;
-mod grid_call;
-mod grouping;
-mod joining;
-mod levelling;
+mod level_gray_call;
 mod members_of_call;
-mod settings;
-mod table_call;
+mod rect_to_page_call;
+mod segments_call;
+mod tables_call;
+mod to_page_call;
+mod validate_call;
+mod validate_fusion_call;

@@ -1,4 +1,5 @@
-// Closed sets and order (crates `gaps`, `pairs` and `order`).
+// Calls for the differential runs and the bench, which the product does not have: closed sets of
+// numbers within a gap and of given pairs (crates `gaps` and `pairs`), and the sort (crate `order`).
 ghost use lib.ListN.{length};
 ghost use Rattle.lists.specs.Lists.{roomFor};
 ghost use Rattle.gaps.specs.Gaps.{GapSets};
@@ -6,7 +7,7 @@ ghost use Rattle.pairs.specs.Pairs.{PairSets};
 ghost use Rattle.order.specs.Order.{Sorts};
 
 #[no_mangle]
-pub extern "C" fn lanegravel_gap_sets(
+pub extern "C" fn testing_gap_sets(
     values: &[u32],
     gap: u32,
     parents: &mut [u32],
@@ -24,7 +25,7 @@ pub extern "C" fn lanegravel_gap_sets(
 }
 
 #[no_mangle]
-pub extern "C" fn lanegravel_pair_sets(
+pub extern "C" fn testing_pair_sets(
     n: usize,
     pairs: &[u32],
     parents: &mut [u32],
@@ -41,7 +42,7 @@ pub extern "C" fn lanegravel_pair_sets(
 }
 
 #[no_mangle]
-pub extern "C" fn lanegravel_sort_indexes(keys: &[u64], out: &mut [u32], work: &mut [u32]) -> bool
+pub extern "C" fn testing_sort_indexes(keys: &[u64], out: &mut [u32], work: &mut [u32]) -> bool
     ensures { λ r. ⌜ Sorts (now (keys .entry)) (now (out .entry)) (now (work .entry)) (now (out .exit)) (now (work .exit)) r ⌝ }
 {
     order::sort_indexes(keys, out, work)

@@ -1,10 +1,10 @@
--- `lanegravel::levelling::lanegravel_rect_to_page` meets its contract: each case of the enum has its number and values. Assumes nothing.
+-- `lanegravel::rect_to_page_call::lanegravel_rect_to_page` meets its contract: each case of the enum has its number and values. Assumes nothing.
 use mathlib.Core.Path.{subst}
 use Rattle.layout.specs.Calls.{RectToPage}
 use Rattle.lanegravel.proofs.Answered.{area-answered, area-refused}
 use borrow.Author.Needs.{needs}
-use Rattle.lanegravel.proofs.levelling.lanegravel_rect_to_page.Statement.{statement}
-use Rattle.lanegravel.proofs.levelling.lanegravel_rect_to_page.Tie as tie
+use Rattle.lanegravel.proofs.rect_to_page_call.lanegravel_rect_to_page.Statement.{statement}
+use Rattle.lanegravel.proofs.rect_to_page_call.lanegravel_rect_to_page.Tie as tie
 
 rect-to-page-requires : tie.Need-rect-to-page-requires
 rect-to-page-requires c κs = search needs

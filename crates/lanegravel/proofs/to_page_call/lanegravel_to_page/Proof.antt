@@ -1,10 +1,10 @@
--- `lanegravel::levelling::lanegravel_to_page` meets its contract: each case of the enum has its number and values. Assumes nothing.
+-- `lanegravel::to_page_call::lanegravel_to_page` meets its contract: each case of the enum has its number and values. Assumes nothing.
 use mathlib.Core.Path.{subst}
 use Rattle.layout.specs.Calls.{ToPage}
 use Rattle.lanegravel.proofs.Answered.{place-answered, place-refused}
 use borrow.Author.Needs.{needs}
-use Rattle.lanegravel.proofs.levelling.lanegravel_to_page.Statement.{statement}
-use Rattle.lanegravel.proofs.levelling.lanegravel_to_page.Tie as tie
+use Rattle.lanegravel.proofs.to_page_call.lanegravel_to_page.Statement.{statement}
+use Rattle.lanegravel.proofs.to_page_call.lanegravel_to_page.Tie as tie
 
 to-page-requires : tie.Need-to-page-requires
 to-page-requires c κs = search needs
