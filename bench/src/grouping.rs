@@ -3,7 +3,7 @@
 
 use std::hint::black_box;
 
-use lanegravel_binding::grouping::{self as ffi, SetLists};
+use differential::testing::{self, SetLists};
 
 use crate::random::Random;
 use crate::timing::{Times, compare};
@@ -49,7 +49,7 @@ fn group(n: usize, pairs: Vec<u32>) -> Times {
     compare(
         5,
         || {
-            black_box(ffi::pair_sets(n, black_box(&pairs), &mut lists));
+            black_box(testing::pair_sets(n, black_box(&pairs), &mut lists));
         },
         || {
             black_box(groups(n, black_box(&pairs)));
@@ -98,7 +98,7 @@ fn sort(n: usize, runs: usize) -> Times {
     compare(
         runs,
         || {
-            black_box(ffi::sort_indexes(black_box(&keys), &mut out, &mut work));
+            black_box(testing::sort_indexes(black_box(&keys), &mut out, &mut work));
         },
         || {
             let mut order: Vec<u32> = (0..n as u32).collect();

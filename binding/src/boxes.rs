@@ -1,6 +1,5 @@
 //! The call about boxes.
 
-use crate::Answer;
 use crate::settings::RulingsParams;
 
 /// What the call is given.
@@ -34,6 +33,14 @@ impl Lent {
     }
 }
 
+/// The number of the first missed question, 0 where none is, and how many boxes there are.
+#[repr(C)]
+#[derive(Clone, Copy, Debug)]
+pub struct BoxesAnswer {
+    pub number: u32,
+    pub count: usize,
+}
+
 unsafe extern "C" {
     fn lanegravel_boxes(
         width: usize,
@@ -51,10 +58,10 @@ unsafe extern "C" {
         marks_count: usize,
         coverages: *mut f64,
         coverages_count: usize,
-    ) -> Answer;
+    ) -> BoxesAnswer;
 }
 
-pub fn boxes(page: &Page, lent: &mut Lent) -> Answer {
+pub fn boxes(page: &Page, lent: &mut Lent) -> BoxesAnswer {
     // SAFETY: as lib.rs says.
     unsafe {
         lanegravel_boxes(

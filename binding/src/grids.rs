@@ -4,7 +4,7 @@ use crate::settings::RulingsParams;
 
 #[repr(C)]
 #[derive(Clone, Copy, Debug)]
-pub struct GridsAnswer {
+pub struct BoxGridsAnswer {
     pub number: u32,
     pub sets: usize,
     pub grids: usize,
@@ -57,7 +57,7 @@ unsafe extern "C" {
         work_count: usize,
         keys: *mut u64,
         keys_count: usize,
-    ) -> GridsAnswer;
+    ) -> BoxGridsAnswer;
 }
 
 pub fn box_grids(
@@ -65,7 +65,7 @@ pub fn box_grids(
     p: &RulingsParams,
     rects: &[u32],
     l: &mut GridsLists,
-) -> GridsAnswer {
+) -> BoxGridsAnswer {
     // SAFETY: as lib.rs says.
     unsafe {
         lanegravel_box_grids(

@@ -38,7 +38,7 @@ unsafe extern "C" {
         shear_x_count: usize,
         x: u32,
         y: u32,
-    ) -> MappedPlace;
+    ) -> ToPageAnswer;
     fn lanegravel_rect_to_page(
         page_width: usize,
         page_height: usize,
@@ -52,12 +52,12 @@ unsafe extern "C" {
         y0: u32,
         x1: u32,
         y1: u32,
-    ) -> MappedArea;
+    ) -> RectToPageAnswer;
 }
 
 /// The number, and the place on the page or outside it.
 #[repr(C)]
-pub struct MappedPlace {
+pub struct ToPageAnswer {
     pub number: u32,
     pub x: i64,
     pub y: i64,
@@ -65,7 +65,7 @@ pub struct MappedPlace {
 
 /// The number, and the rectangle on the page.
 #[repr(C)]
-pub struct MappedArea {
+pub struct RectToPageAnswer {
     pub number: u32,
     pub x0: u32,
     pub y0: u32,
@@ -94,7 +94,7 @@ pub fn level_gray(page: &Page, out: &mut [u8]) -> u32 {
 }
 
 /// Where a levelled place lies on the page.
-pub fn to_page(page: &Page, x: u32, y: u32) -> MappedPlace {
+pub fn to_page(page: &Page, x: u32, y: u32) -> ToPageAnswer {
     // SAFETY: as lib.rs says.
     unsafe {
         lanegravel_to_page(
@@ -113,7 +113,7 @@ pub fn to_page(page: &Page, x: u32, y: u32) -> MappedPlace {
 }
 
 /// The rectangle on the page of a levelled rectangle.
-pub fn rect_to_page(page: &Page, [x0, y0, x1, y1]: [u32; 4]) -> MappedArea {
+pub fn rect_to_page(page: &Page, [x0, y0, x1, y1]: [u32; 4]) -> RectToPageAnswer {
     // SAFETY: as lib.rs says.
     unsafe {
         lanegravel_rect_to_page(

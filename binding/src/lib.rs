@@ -8,16 +8,8 @@
 pub mod boxes;
 pub mod floats;
 pub mod grids;
-pub mod grouping;
 pub mod layout;
 pub mod segments;
+pub mod sets;
 pub mod settings;
 pub mod tables;
-
-/// The number of the first missed question, 0 where none is, and how many records were listed.
-#[repr(C)]
-#[derive(Clone, Copy, Debug, PartialEq)]
-pub struct Answer {
-    pub number: u32,
-    pub count: usize,
-}

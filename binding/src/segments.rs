@@ -1,6 +1,5 @@
 //! The call about rulings.
 
-use crate::Answer;
 use crate::settings::RulingsParams;
 
 /// What the call is given.
@@ -47,6 +46,14 @@ impl Lent {
     }
 }
 
+/// The number of the first missed question, 0 where none is, and how many rulings there are.
+#[repr(C)]
+#[derive(Clone, Copy, Debug)]
+pub struct SegmentsAnswer {
+    pub number: u32,
+    pub count: usize,
+}
+
 unsafe extern "C" {
     fn lanegravel_segments(
         raster: *const u8,
@@ -77,10 +84,10 @@ unsafe extern "C" {
         work_count: usize,
         keys: *mut u64,
         keys_count: usize,
-    ) -> Answer;
+    ) -> SegmentsAnswer;
 }
 
-pub fn segments(page: &Page, lent: &mut Lent) -> Answer {
+pub fn segments(page: &Page, lent: &mut Lent) -> SegmentsAnswer {
     // SAFETY: as lib.rs says.
     unsafe {
         lanegravel_segments(

@@ -1,6 +1,6 @@
 //! The answer text.
 
-use lanegravel_binding::grouping::members_of;
+use lanegravel_binding::sets::members_of;
 
 /// The number of the first question that was missed.
 pub struct Refused(pub u32);

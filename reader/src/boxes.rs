@@ -2,7 +2,7 @@
 
 use lanegravel_binding::boxes::{self, Lent, Page};
 use lanegravel_binding::grids::{self, GridsLists};
-use lanegravel_binding::grouping::members_of;
+use lanegravel_binding::sets::members_of;
 
 use crate::answer::{Answer, accepted, float, list, sets};
 use crate::fields::Fields;

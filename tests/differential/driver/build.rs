@@ -1,12 +1,14 @@
-//! Links the static library that LANEGRAVEL_LIB names.
+//! Links the static libraries that LANEGRAVEL_LIB and LANEGRAVEL_TESTING_LIB name.
 
 use std::env;
 
-fn main() -> Result<(), &'static str> {
-    println!("cargo::rerun-if-env-changed=LANEGRAVEL_LIB");
-    let library = env::var("LANEGRAVEL_LIB")
-        .map_err(|_| "LANEGRAVEL_LIB is not set: it names the static library")?;
-    println!("cargo::rerun-if-changed={library}");
-    println!("cargo::rustc-link-arg={library}");
+fn main() -> Result<(), String> {
+    for name in ["LANEGRAVEL_LIB", "LANEGRAVEL_TESTING_LIB"] {
+        println!("cargo::rerun-if-env-changed={name}");
+        let library =
+            env::var(name).map_err(|_| format!("{name} is not set: it names a static library"))?;
+        println!("cargo::rerun-if-changed={library}");
+        println!("cargo::rustc-link-arg={library}");
+    }
     Ok(())
 }

@@ -1,11 +1,11 @@
 //! Closed sets and order: against a flood fill and `sort_by_key`, with every lent place checked.
 
-use lanegravel_binding::Answer;
-use lanegravel_binding::grouping::{self as ffi, SetLists};
+use lanegravel_binding::sets;
 
 use crate::flood::{self, flood};
 use crate::random::Random;
 use crate::tally::Tally;
+use crate::testing::{self, SetLists, SetsAnswer};
 
 /// What a lent place holds before a call.
 const LENT: u32 = 0xabad_cafe;
@@ -20,7 +20,7 @@ pub fn gap_sets(random: &mut Random, count: u64) -> Tally {
         let sets = flood(n, |i, j| values[i].abs_diff(values[j]) <= gap);
         let mut lists = lent(random, n);
         let expected = listed(n, &sets, &lists, true);
-        let answer = ffi::gap_sets(&values, gap, &mut lists);
+        let answer = testing::gap_sets(&values, gap, &mut lists);
         check(&mut tally, expected, answer, lists, || {
             format!("{values:?} gap {gap}")
         });
@@ -48,7 +48,7 @@ pub fn pair_sets(random: &mut Random, count: u64) -> Tally {
         });
         let mut lists = lent(random, n);
         let expected = listed(n, &sets, &lists, whole);
-        let answer = ffi::pair_sets(n, &pairs, &mut lists);
+        let answer = testing::pair_sets(n, &pairs, &mut lists);
         check(&mut tally, expected, answer, lists, || {
             format!("{n} indexes, pairs {pairs:?}")
         });
@@ -73,7 +73,7 @@ pub fn members_of(random: &mut Random, count: u64) -> Tally {
             Some(&end) if set < count => members.get(start..end as usize).unwrap_or(&[]),
             _ => &[],
         };
-        let ours = ffi::members_of(&members, &ends, count, set);
+        let ours = sets::members_of(&members, &ends, count, set);
         tally.compare(&words(part), &words(ours), || {
             format!("members {members:?} ends {ends:?} count {count} set {set}")
         });
@@ -99,7 +99,7 @@ pub fn sort_indexes(random: &mut Random, count: u64) -> Tally {
             order.sort_by_key(|&i| keys[i as usize]);
             expected[..n].copy_from_slice(&order);
         }
-        let ours = ffi::sort_indexes(&keys, &mut out, &mut work);
+        let ours = testing::sort_indexes(&keys, &mut out, &mut work);
         let kept = accepted || work.iter().all(|&x| x == LENT);
         tally.compare(
             &[u64::from(accepted), 1, u64::from(true)],
@@ -129,12 +129,12 @@ fn lent(random: &mut Random, n: usize) -> SetLists {
 }
 
 /// The answer, and what the lists must hold after it; parents and work are free when accepted.
-fn listed(n: usize, sets: &[Vec<u32>], lists: &SetLists, whole: bool) -> (Answer, SetLists) {
+fn listed(n: usize, sets: &[Vec<u32>], lists: &SetLists, whole: bool) -> (SetsAnswer, SetLists) {
     let mut after = lists.clone();
     let lengths = [&lists.parents, &lists.members, &lists.ends, &lists.work];
     if !whole || lengths.iter().any(|list| list.len() < n) {
         return (
-            Answer {
+            SetsAnswer {
                 number: 1,
                 count: 0,
             },
@@ -143,13 +143,13 @@ fn listed(n: usize, sets: &[Vec<u32>], lists: &SetLists, whole: bool) -> (Answer
     }
     flood::list(sets, &mut after.members, &mut after.ends);
     let count = sets.len();
-    (Answer { number: 0, count }, after)
+    (SetsAnswer { number: 0, count }, after)
 }
 
 fn check(
     tally: &mut Tally,
-    (expected, after): (Answer, SetLists),
-    answer: Answer,
+    (expected, after): (SetsAnswer, SetLists),
+    answer: SetsAnswer,
     mut lists: SetLists,
     input: impl FnOnce() -> String,
 ) {

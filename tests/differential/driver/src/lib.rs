@@ -21,4 +21,5 @@ pub mod rust_layout;
 pub mod segments;
 pub mod tables;
 pub mod tally;
+pub mod testing;
 pub mod values;

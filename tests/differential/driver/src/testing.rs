@@ -1,9 +1,9 @@
-//! Closed sets and order.
-
-use crate::Answer;
+//! The calls of the static library `testing` (crates/testing), over slices and lists: what the runs and
+//! the bench need, and the product does not have. Every call is safe to make with any values, for the
+//! reasons that `binding` gives.
 
 unsafe extern "C" {
-    fn lanegravel_gap_sets(
+    fn testing_gap_sets(
         values: *const u32,
         count: usize,
         gap: u32,
@@ -15,8 +15,8 @@ unsafe extern "C" {
         ends_count: usize,
         work: *mut u32,
         work_count: usize,
-    ) -> Answer;
-    fn lanegravel_pair_sets(
+    ) -> SetsAnswer;
+    fn testing_pair_sets(
         n: usize,
         pairs: *const u32,
         count: usize,
@@ -28,16 +28,8 @@ unsafe extern "C" {
         ends_count: usize,
         work: *mut u32,
         work_count: usize,
-    ) -> Answer;
-    fn lanegravel_members_of(
-        members: *const u32,
-        members_count: usize,
-        ends: *const u32,
-        ends_count: usize,
-        count: usize,
-        set: usize,
-    ) -> Part;
-    fn lanegravel_sort_indexes(
+    ) -> SetsAnswer;
+    fn testing_sort_indexes(
         keys: *const u64,
         count: usize,
         out: *mut u32,
@@ -47,14 +39,16 @@ unsafe extern "C" {
     ) -> bool;
 }
 
-/// A part of a lent list.
+/// 0 where the call is accepted, else 1, and how many sets there are. A refused call writes nothing.
 #[repr(C)]
-struct Part {
-    start: usize,
-    count: usize,
+#[derive(Clone, Copy, Debug, PartialEq)]
+pub struct SetsAnswer {
+    pub number: u32,
+    pub count: usize,
 }
 
-/// The lists that a call which lists sets is lent.
+/// The lists that a call which lists sets is lent: `members` and `ends` are answered in, the others
+/// are work lists.
 #[derive(Clone, Debug, PartialEq)]
 pub struct SetLists {
     pub parents: Vec<u32>,
@@ -63,10 +57,12 @@ pub struct SetLists {
     pub work: Vec<u32>,
 }
 
-pub fn gap_sets(values: &[u32], gap: u32, lists: &mut SetLists) -> Answer {
-    // SAFETY: as lib.rs says.
+/// The closed sets of the places of `values`, two of which touch when their numbers differ by at most
+/// `gap`. Refused where a list has fewer entries than there are values, or there are 2^32 of them.
+pub fn gap_sets(values: &[u32], gap: u32, lists: &mut SetLists) -> SetsAnswer {
+    // SAFETY: as the top of this file says.
     unsafe {
-        lanegravel_gap_sets(
+        testing_gap_sets(
             values.as_ptr(),
             values.len(),
             gap,
@@ -82,10 +78,12 @@ pub fn gap_sets(values: &[u32], gap: u32, lists: &mut SetLists) -> Answer {
     }
 }
 
-pub fn pair_sets(n: usize, pairs: &[u32], lists: &mut SetLists) -> Answer {
-    // SAFETY: as lib.rs says.
+/// The same for the indexes below n, two of which touch when they are one of the pairs (two numbers
+/// each; a number without its partner makes no pair). Refused also where a number is not below n.
+pub fn pair_sets(n: usize, pairs: &[u32], lists: &mut SetLists) -> SetsAnswer {
+    // SAFETY: as the top of this file says.
     unsafe {
-        lanegravel_pair_sets(
+        testing_pair_sets(
             n,
             pairs.as_ptr(),
             pairs.len(),
@@ -101,26 +99,12 @@ pub fn pair_sets(n: usize, pairs: &[u32], lists: &mut SetLists) -> Answer {
     }
 }
 
-/// The members of one set, as the part of `members` that the library names.
-pub fn members_of<'a>(members: &'a [u32], ends: &[u32], count: usize, set: usize) -> &'a [u32] {
-    // SAFETY: as lib.rs says.
-    let part = unsafe {
-        lanegravel_members_of(
-            members.as_ptr(),
-            members.len(),
-            ends.as_ptr(),
-            ends.len(),
-            count,
-            set,
-        )
-    };
-    &members[part.start..part.start + part.count]
-}
-
+/// The indexes of the keys by ascending key, equal keys by index, from the front of `out`. False, and
+/// nothing written, where `out` or `work` has fewer entries than there are keys, or there are 2^32.
 pub fn sort_indexes(keys: &[u64], out: &mut [u32], work: &mut [u32]) -> bool {
-    // SAFETY: as lib.rs says.
+    // SAFETY: as the top of this file says.
     unsafe {
-        lanegravel_sort_indexes(
+        testing_sort_indexes(
             keys.as_ptr(),
             keys.len(),
             out.as_mut_ptr(),
