@@ -1,12 +1,19 @@
 /* Lanegravel: finds ruled tables and answer boxes on a scanned questionnaire.
  *
  * Nothing has to be vetted before a call: every bit pattern of a number has its answer, every call
- * ends, and no call reads or writes memory that it was not lent. A list is a pointer and a count;
- * the pointer is aligned and not null, also where the count is 0. */
+ * ends, and no call reads or writes memory that it was not lent. What a call takes for granted, since
+ * it can't ask:
+ *   lists    A list is a pointer and a count of entries. The pointer leads to that many entries and is
+ *            aligned for their type; where the count is 0 it may be null. A list that is written (not
+ *            const) overlaps no other list of the call; lists that are only read may overlap. No one
+ *            else writes a lent list during the call, or reads one that is written.
+ *   floats   The float environment is the one that a C program starts in: round to nearest, subnormal
+ *            numbers kept, no traps. fesetround changes it; so does an object that was linked with
+ *            GCC's -ffast-math, for the whole program, and answers then differ.
+ *   stack    There is room on the stack. */
 #ifndef LANEGRAVEL_H
 #define LANEGRAVEL_H
 
-#include <stdbool.h>
 #include <stddef.h>
 #include <stdint.h>
 
@@ -31,49 +38,17 @@ int64_t lanegravel_rounded_product(double a, double b);
  * The sign of x stays, also on a zero; infinities and NaN stay. */
 double lanegravel_round(double x);
 
-/* The answer of a call that lists sets: 0 where it is accepted, else 1; and how many sets there are.
- * A refused call writes nothing. */
-struct lanegravel_set_count {
-    uint32_t number;
-    size_t count;
-};
-
-/* The closed sets of the places of `values`: two places touch when their numbers differ by at most
- * `gap`, and a closed set is joined by chains of touching places, with no outsider touching one.
- * members: the places, ascending in each set, the sets by their smallest place; ends: the end of
- * each set in members (a set begins where the one before it ends). Refused where one of the four
- * lists has fewer entries than there are values, or there are 2^32 values or more. Places past the
- * answers keep their content; parents and work hold free content after an accepted call. */
-struct lanegravel_set_count lanegravel_gap_sets(
-    const uint32_t *values, size_t count, uint32_t gap,
-    uint32_t *parents, size_t parents_count, uint32_t *members, size_t members_count,
-    uint32_t *ends, size_t ends_count, uint32_t *work, size_t work_count);
-
-/* The same for the indexes below n, two of which touch when they are one of the pairs (two numbers
- * each; a number without its partner makes no pair). Refused also where a number is not below n. */
-struct lanegravel_set_count lanegravel_pair_sets(
-    size_t n, const uint32_t *pairs, size_t count,
-    uint32_t *parents, size_t parents_count, uint32_t *members, size_t members_count,
-    uint32_t *ends, size_t ends_count, uint32_t *work, size_t work_count);
-
-/* A part of a lent list. */
-struct lanegravel_part {
+/* A part of the member list. */
+struct lanegravel_members_of_answer {
     size_t start;
     size_t count;
 };
 
 /* The members of one set of a listing of `count` sets, as a part of the member list. A set number
  * at or past the count, bounds outside the lists, or a start past its end, give the empty part. */
-struct lanegravel_part lanegravel_members_of(
+struct lanegravel_members_of_answer lanegravel_members_of(
     const uint32_t *members, size_t members_count, const uint32_t *ends, size_t ends_count,
     size_t count, size_t set);
-
-/* The indexes of the keys by ascending key, equal keys by index, from the front of `out`; places
- * past them keep their content, and work holds free content. False, and nothing written, where out
- * or work has fewer entries than there are keys, or there are 2^32 keys or more. */
-bool lanegravel_sort_indexes(
-    const uint64_t *keys, size_t count, uint32_t *out, size_t out_count, uint32_t *work,
-    size_t work_count);
 
 /* The settings. A name that ends in _xh is in x-heights, one that ends in _in is in inches. */
 struct lanegravel_rulings_params {
@@ -130,6 +105,7 @@ uint32_t lanegravel_validate(struct lanegravel_rulings_params p);
 
 /* 0 where llr_clip and group_cap are finite and from 0 to 1,000,000, and otherwise 12. */
 uint32_t lanegravel_validate_fusion(struct lanegravel_fusion_params f);
+
 /* Levelling. A page of page_width by page_height is moved into a picture of width by height: page
  * pixel (X, Y) goes to row R = Y + shear[X], column X + shear_x[R]. A call returns 0, or the number
  * of the first question that is missed, and then writes nothing:
@@ -137,8 +113,7 @@ uint32_t lanegravel_validate_fusion(struct lanegravel_fusion_params f);
  *   3  gray page_width * page_height bytes, shear page_width entries, shear_x height entries
  *   4  shear entries 0 to height - page_height, shear_x entries 0 to width - page_width
  *   6  the place or rectangle ordered and inside the picture
- *  14  out exactly width * height bytes
- * Lists that are lent to one call don't overlap where one of them is written. */
+ *  14  out exactly width * height bytes */
 
 /* Puts 1, 3, 4 and 14. Writes the levelled raster, row by row: a place that a page pixel reaches
  * holds that pixel, every other 255. */
@@ -149,7 +124,7 @@ uint32_t lanegravel_level_gray(size_t page_width, size_t page_height, size_t wid
                                uint8_t *out, size_t out_count);
 
 /* The number of the first missed question, and a page place: 0, 0 where the number is not 0. */
-struct lanegravel_mapped_place {
+struct lanegravel_to_page_answer {
     uint32_t number;
     int64_t x;
     int64_t y;
@@ -157,14 +132,14 @@ struct lanegravel_mapped_place {
 
 /* Puts 1, 3, 4 and 6. From levelled place (x, y) to the page; a place in the picture's padding maps
  * outside the page, and reads shear at the nearest page column. */
-struct lanegravel_mapped_place
+struct lanegravel_to_page_answer
 lanegravel_to_page(size_t page_width, size_t page_height, size_t width, size_t height,
                    const int32_t *shear, size_t shear_count,
                    const int32_t *shear_x, size_t shear_x_count, uint32_t x, uint32_t y);
 
 /* The number of the first missed question, and a page rectangle, both ends inside it: all 0 where
  * the number is not 0. */
-struct lanegravel_mapped_area {
+struct lanegravel_rect_to_page_answer {
     uint32_t number;
     uint32_t x0;
     uint32_t y0;
@@ -174,7 +149,7 @@ struct lanegravel_mapped_area {
 
 /* Puts 1, 3, 4 and 6. The page rectangle around the four corners of a levelled rectangle, each
  * mapped as by lanegravel_to_page, clamped into the page. */
-struct lanegravel_mapped_area
+struct lanegravel_rect_to_page_answer
 lanegravel_rect_to_page(size_t page_width, size_t page_height, size_t width, size_t height,
                         const int32_t *shear, size_t shear_count,
                         const int32_t *shear_x, size_t shear_x_count,
@@ -182,7 +157,7 @@ lanegravel_rect_to_page(size_t page_width, size_t page_height, size_t width, siz
 
 /* What lanegravel_segments answers: the number of the first question that is missed, 0 where the
  * page is accepted, and the number of rulings, 0 on refusal. */
-struct lanegravel_rulings {
+struct lanegravel_segments_answer {
     uint32_t number;
     size_t count;
 };
@@ -205,7 +180,7 @@ struct lanegravel_rulings {
  *   6  every piece ordered and inside the picture
  *   7 to 11 and 13  the settings, as lanegravel_validate has them
  *  14  raster exactly width * height bytes, rects four numbers a piece, every other list one entry */
-struct lanegravel_rulings lanegravel_segments(
+struct lanegravel_segments_answer lanegravel_segments(
     const uint8_t *raster, size_t raster_count, size_t width, size_t height, double xheight,
     const uint32_t *pieces, size_t pieces_count, struct lanegravel_rulings_params p,
     uint32_t *rects, size_t rects_count, uint32_t *directions, size_t directions_count,
@@ -290,7 +265,7 @@ struct lanegravel_boxes_answer lanegravel_boxes(
 
 /* What lanegravel_box_grids found: the number of the first missed question, 0 where none is missed,
  * and how many sets and grids there are; both 0 where a question is missed. */
-struct lanegravel_grids_answer {
+struct lanegravel_box_grids_answer {
     uint32_t number;
     size_t sets;
     size_t grids;
@@ -311,7 +286,7 @@ struct lanegravel_grids_answer {
  *   numbers            for each grid, a set of at least grid_min_boxes, the number of its set,
  *                      ascending.
  * parents, work and keys are work lists: after an accepted call their content is free. */
-struct lanegravel_grids_answer lanegravel_box_grids(
+struct lanegravel_box_grids_answer lanegravel_box_grids(
     double xheight, struct lanegravel_rulings_params p, const uint32_t *rects, size_t rects_count,
     uint32_t *members, size_t members_count, uint32_t *ends, size_t ends_count,
     uint32_t *reading, size_t reading_count, uint32_t *numbers, size_t numbers_count,
