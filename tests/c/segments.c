@@ -16,8 +16,9 @@ struct lists {
     uint64_t keys[11];
 };
 
-/* A vertical, and two horizontals that touch: centres one row apart, a gap of two columns. */
-static const uint32_t pieces[] = {10, 1, 10, 7, 1, 4, 3, 4, 6, 5, 8, 5};
+/* Two horizontals that touch, centres one row apart, a gap of two columns; and a vertical that begins
+ * above them. */
+static const uint32_t pieces[] = {1, 4, 3, 4, 6, 5, 8, 5, 10, 1, 10, 7};
 
 static void draw(uint8_t *raster) {
     int x, y;
@@ -64,7 +65,7 @@ static void test_no_pieces(void) {
 
 void test_segments(void) {
     static const uint32_t rects[] = {10, 1, 10, 7, 1, 4, 8, 5};
-    static const uint32_t directions[] = {1, 0}, members[] = {0, 1, 2}, ends[] = {1, 3};
+    static const uint32_t directions[] = {1, 0}, members[] = {2, 0, 1}, ends[] = {1, 3};
     static const double contrasts[] = {150.0, 127.5};
     struct lists l;
     struct lanegravel_segments_answer a = call(&l, 4.0, 3);

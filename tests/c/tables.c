@@ -17,9 +17,10 @@ struct lists {
     uint64_t keys[18];
 };
 
-/* Two loose rulings, then three horizontals, the second too short for the right one of two verticals. */
-static const uint32_t rects[] = {0,  50, 5,  50, 0,  60, 5,  60, 10, 10, 30, 10, 10, 20,
-                                 26, 20, 10, 40, 30, 40, 10, 10, 10, 40, 30, 10, 30, 40};
+/* Three horizontals, the second too short for the right one of two verticals; between them, at 1 and
+ * at 4, two loose horizontals. */
+static const uint32_t rects[] = {10, 10, 30, 10, 0, 50, 5,  50, 10, 20, 26, 20, 10, 40,
+                                 30, 40, 0,  60, 5, 60, 10, 10, 10, 40, 30, 10, 30, 40};
 
 static struct lanegravel_tables_answer call(struct lists *l, uint32_t last_direction) {
     uint32_t directions[] = {0, 0, 0, 0, 0, 1, 1};
@@ -43,9 +44,9 @@ static void is_answer(struct lanegravel_tables_answer a, uint32_t number, size_t
 }
 
 static void test_lists(const struct lists *l) {
-    static const uint32_t members[] = {0, 1, 2, 3, 4, 5, 6}, ends[] = {1, 2, 7};
-    static const uint32_t numbers[] = {2}, bounds[] = {10, 10, 30, 40};
-    static const uint32_t rows[] = {2}, columns[] = {1}, rulings[] = {5}, free[] = {0, 1};
+    static const uint32_t members[] = {0, 2, 3, 5, 6, 1, 4}, ends[] = {5, 6, 7};
+    static const uint32_t numbers[] = {0}, bounds[] = {10, 10, 30, 40};
+    static const uint32_t rows[] = {2}, columns[] = {1}, rulings[] = {5}, free[] = {1, 4};
     static const double shares[] = {0.9};
     ANSWERED(l->members, members);
     ANSWERED(l->ends, ends);
