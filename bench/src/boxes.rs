@@ -10,9 +10,9 @@ use pagetriage::pixel::rulings;
 use crate::params::{self, VALID};
 use crate::random::Random;
 use crate::rust_layout::with_glyphs;
-use crate::timing::{Times, compare};
+use crate::timing::{Measurement, Times, compare};
 
-pub const MEASUREMENTS: [(&str, fn() -> Times); 4] = [
+pub const MEASUREMENTS: [Measurement; 4] = [
     ("boxes, a form of 3,000 glyphs", || {
         find(masks::form(&mut Random::new(1), 2_480, 3_508, 3_000))
     }),

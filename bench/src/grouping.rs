@@ -6,9 +6,9 @@ use std::hint::black_box;
 use differential::testing::{self, SetLists};
 
 use crate::random::Random;
-use crate::timing::{Times, compare};
+use crate::timing::{Measurement, Times, compare};
 
-pub const MEASUREMENTS: [(&str, fn() -> Times); 6] = [
+pub const MEASUREMENTS: [Measurement; 6] = [
     ("join and list, 2^24 in a random forest", forest),
     ("join and list, 2^24 in one chain", chain),
     ("join and list, 2^22 in one chain, pairs shuffled", shuffled),

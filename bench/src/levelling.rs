@@ -6,9 +6,9 @@ use lanegravel_binding::layout::{self as ffi, Page};
 
 use crate::random::Random;
 use crate::rust_layout::layout;
-use crate::timing::{Times, compare};
+use crate::timing::{Measurement, Times, compare};
 
-pub const MEASUREMENTS: [(&str, fn() -> Times); 3] = [
+pub const MEASUREMENTS: [Measurement; 3] = [
     ("level 2,480 by 3,508, skew of one degree", || {
         level(skewed(1f64.to_radians().tan()))
     }),

@@ -8,9 +8,9 @@ use crate::ffi_tables;
 use crate::params::{self, VALID};
 use crate::random::Random;
 use crate::tables::{lent, segments};
-use crate::timing::{Times, compare};
+use crate::timing::{Measurement, Times, compare};
 
-pub const MEASUREMENTS: [(&str, fn() -> Times); 8] = [
+pub const MEASUREMENTS: [Measurement; 8] = [
     ("tables, a form of 72 rulings", || {
         table(&form(4, 12, 6, 2_104))
     }),

@@ -9,9 +9,9 @@ use crate::params::{self, VALID};
 use crate::random::Random;
 use crate::ruled_tables::{form, strokes};
 use crate::rust_layout::with_rules;
-use crate::timing::{Times, compare};
+use crate::timing::{Measurement, Times, compare};
 
-pub const MEASUREMENTS: [(&str, fn() -> Times); 5] = [
+pub const MEASUREMENTS: [Measurement; 5] = [
     ("rulings, a page of 300 pieces, its rules drawn", || {
         join(drawn_page())
     }),

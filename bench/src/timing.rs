@@ -3,6 +3,9 @@
 use std::fmt;
 use std::time::{Duration, Instant};
 
+/// What a row of the table is called, and how it is measured.
+pub type Measurement = (&'static str, fn() -> Times);
+
 pub struct Times {
     ours: Duration,
     rust: Duration,

@@ -12,9 +12,9 @@ pub fn flood(n: usize, touch: impl Fn(usize, usize) -> bool) -> Vec<Vec<u32>> {
         seen[first] = true;
         let (mut set, mut open) = (vec![first as u32], vec![first]);
         while let Some(i) = open.pop() {
-            for j in 0..n {
-                if !seen[j] && (touch(i, j) || touch(j, i)) {
-                    seen[j] = true;
+            for (j, seen) in seen.iter_mut().enumerate() {
+                if !*seen && (touch(i, j) || touch(j, i)) {
+                    *seen = true;
                     set.push(j as u32);
                     open.push(j);
                 }

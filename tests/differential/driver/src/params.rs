@@ -129,7 +129,7 @@ pub fn first_missed(p: &RulingsParams) -> u32 {
         (9, p.box_max_xh >= p.box_min_xh),
         (
             10,
-            shares.iter().all(|&v| v >= 0.0 && v <= 1.0) && p.box_tolerance_px <= 3,
+            shares.iter().all(|v| (0.0..=1.0).contains(v)) && p.box_tolerance_px <= 3,
         ),
         (
             11,

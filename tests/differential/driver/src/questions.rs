@@ -27,7 +27,10 @@ pub fn xheight(x: f64) -> (u32, bool) {
 
 /// Question 5: whole rectangles, at most so many.
 pub fn rectangles(numbers: &[u32], most: usize) -> (u32, bool) {
-    (5, numbers.len() % 4 == 0 && numbers.len() / 4 <= most)
+    (
+        5,
+        numbers.len().is_multiple_of(4) && numbers.len() / 4 <= most,
+    )
 }
 
 /// Question 6: each rectangle ordered and inside a picture of these sides.
@@ -60,7 +63,7 @@ pub fn move_outside(random: &mut Random, numbers: &mut [u32], width: usize, heig
         return;
     }
     let at = random.below(numbers.len() as u64) as usize;
-    let edge = if at % 2 == 0 { width } else { height } as u32;
+    let edge = if at.is_multiple_of(2) { width } else { height } as u32;
     numbers[at] = random.pick(&[edge, edge.wrapping_sub(1), 0, u32::MAX]);
 }
 
