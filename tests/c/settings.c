@@ -40,6 +40,8 @@ struct lanegravel_rulings_params settings(void) {
 static void test_layout(void) {
     CHECK(sizeof(struct lanegravel_rulings_params) == 232);
     CHECK(sizeof(struct lanegravel_fusion_params) == 16);
+    CHECK(offsetof(struct lanegravel_fusion_params, llr_clip) == 0);
+    CHECK(offsetof(struct lanegravel_fusion_params, group_cap) == 8);
     AT(merge_across_xh, 0);
     AT(merge_gap_xh, 8);
     AT(rule_min_contrast, 16);
