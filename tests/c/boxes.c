@@ -49,19 +49,17 @@ static void refused(uint16_t dpi, size_t room, uint32_t number) {
     CHECK(kept(&l, sizeof l));
 }
 
-static void test_no_glyphs(void) {
-    uint8_t ink[WIDTH * HEIGHT];
-    struct lanegravel_boxes_answer a;
-    draw(ink);
-    a = lanegravel_boxes(WIDTH, HEIGHT, 10, 4.0, ink, COUNT(ink), NULL, 0, settings(), NULL, 0,
-                         NULL, 0, NULL, 0);
-    CHECK(a.number == 0);
+static void test_no_glyphs(const uint8_t *ink, size_t ink_count, uint32_t number) {
+    struct lanegravel_boxes_answer a = lanegravel_boxes(
+        WIDTH, HEIGHT, 10, 4.0, ink, ink_count, NULL, 0, settings(), NULL, 0, NULL, 0, NULL, 0);
+    CHECK(a.number == number);
     CHECK(a.count == 0);
 }
 
 void test_boxes(void) {
     static const uint32_t rects[] = {2, 3, 9, 10, 11, 4, 18, 11}, marks[] = {0, 1};
     static const double coverages[] = {1.0, 0.75};
+    uint8_t ink[WIDTH * HEIGHT];
     struct lists l;
     struct lanegravel_boxes_answer a = call(&l, 10, 3);
     CHECK(a.number == 0);
@@ -71,5 +69,7 @@ void test_boxes(void) {
     ANSWERED(l.coverages, coverages);
     refused(0, 3, 2);
     refused(10, 2, 14);
-    test_no_glyphs();
+    draw(ink);
+    test_no_glyphs(ink, COUNT(ink), 0);
+    test_no_glyphs(NULL, 0, 3);
 }

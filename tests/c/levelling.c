@@ -32,6 +32,7 @@ static void test_to_page(void) {
     to_page(2, 3, 0, 1, 1);
     to_page(0, 2, 0, -2, 2); /* in the padding */
     to_page(2, 5, 6, 0, 0);
+    CHECK(lanegravel_to_page(2, 3, 4, 5, NULL, 0, NULL, 0, 3, 2).number == 3);
 }
 
 /* A page of 6 by 7 in a picture of 9 by 11, moved right by 2 and down by 1. */
@@ -54,6 +55,7 @@ static void test_rect_to_page(void) {
     rect_to_page(inside, 0, on_page);
     rect_to_page(clamped, 0, in_page);
     rect_to_page(unordered, 6, none);
+    CHECK(lanegravel_rect_to_page(6, 7, 9, 11, NULL, 0, NULL, 0, 2, 3, 5, 6).number == 3);
 }
 
 void test_levelling(void) {

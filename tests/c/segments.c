@@ -52,14 +52,11 @@ static void refused(double xheight, size_t room, uint32_t number) {
     CHECK(kept(&l, sizeof l));
 }
 
-static void test_no_pieces(void) {
-    uint8_t raster[WIDTH * HEIGHT];
-    struct lanegravel_segments_answer a;
-    draw(raster);
-    a = lanegravel_segments(raster, COUNT(raster), WIDTH, HEIGHT, 4.0, NULL, 0, settings(), NULL,
-                            0, NULL, 0, NULL, 0, NULL, 0, NULL, 0, NULL, 0, NULL, 0, NULL, 0,
-                            NULL, 0, NULL, 0);
-    CHECK(a.number == 0);
+static void test_no_pieces(const uint8_t *raster, size_t raster_count, uint32_t number) {
+    struct lanegravel_segments_answer a = lanegravel_segments(
+        raster, raster_count, WIDTH, HEIGHT, 4.0, NULL, 0, settings(), NULL, 0, NULL, 0, NULL, 0,
+        NULL, 0, NULL, 0, NULL, 0, NULL, 0, NULL, 0, NULL, 0, NULL, 0);
+    CHECK(a.number == number);
     CHECK(a.count == 0);
 }
 
@@ -67,6 +64,7 @@ void test_segments(void) {
     static const uint32_t rects[] = {10, 1, 10, 7, 1, 4, 8, 5};
     static const uint32_t directions[] = {1, 0}, members[] = {2, 0, 1}, ends[] = {1, 3};
     static const double contrasts[] = {150.0, 127.5};
+    uint8_t raster[WIDTH * HEIGHT];
     struct lists l;
     struct lanegravel_segments_answer a = call(&l, 4.0, 3);
     CHECK(a.number == 0);
@@ -78,5 +76,7 @@ void test_segments(void) {
     ANSWERED(l.ends, ends);
     refused(0.0, 3, 2);
     refused(4.0, 2, 14);
-    test_no_pieces();
+    draw(raster);
+    test_no_pieces(raster, COUNT(raster), 0);
+    test_no_pieces(NULL, 0, 14);
 }
