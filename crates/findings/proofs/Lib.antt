@@ -2,3 +2,4 @@
 pub mod Fronts
 pub mod OnPage
 pub mod KeyLoop
+pub mod All
