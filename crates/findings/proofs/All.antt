@@ -18,7 +18,7 @@ use Rattle.finding_lists.specs.Columns.{Columns, AllWritten}
 use Rattle.finding_lists.specs.Steps.{Stored, Roomy, RanksGiven}
 use Rattle.finding_lists.proofs.Placed.{Inverse}
 use Rattle.finding_lists.proofs.Storing.{stored-then, all-written, room-for-fewer}
-use Rattle.findings.specs.Keys.{keyOf, inOrder}
+use Rattle.findings.specs.Keys.{keyOf, noFinding, inOrder}
 
 module _ {ka kb ra rb : List ℕ} (R : Ranked ka kb ra rb) (la : length ka ≤ length ra) (lb : length kb ≤ length rb) where
   -- the ranks of both runs, one after the other
@@ -44,7 +44,7 @@ module _ {ka kb ra rb : List ℕ} (R : Ranked ka kb ra rb) (la : length ka ≤ l
           let g : k ≡ length (take (length ka) ra) + j = omega (arith, front-long) in
           let m : j < length kb = omega arith in
           let e : getD ranks k 0 ≡ getD rb j 0
-                = ap (λ (i : ℕ). getD ranks i 0) g ∙ getD-append-add (take (length ka) ra) (take (length kb) rb) j 0 ∙ getD-take (length kb) rb j 0 m in
+          = ap (λ (i : ℕ). getD ranks i 0) g ∙ getD-append-add (take (length ka) ra) (take (length kb) rb) j 0 ∙ getD-take (length kb) rb j 0 m in
           subst (λ (i : ℕ). Rank (ka ++ kb) i (getD ranks k 0)) (sym f) (subst (Rank (ka ++ kb) (length ka + j)) (sym e) (R .of-second j m))
 
   all-long : length (ka ++ kb) ≡ length ranks
@@ -58,58 +58,68 @@ module _ {ka kb ra rb : List ℕ} (R : Ranked ka kb ra rb) (la : length ka ≤ l
         holds = λ k h. at k h .1;
         within = λ j h. subst (λ (n : ℕ). getD (sortedIndexes (ka ++ kb)) j 0 < n) all-long (rank-below (ka ++ kb) j (below j h));
         back = λ j h.
-          let b = rank-below (ka ++ kb) j (below j h) in
-          rank-once (ka ++ kb) (at (getD (sortedIndexes (ka ++ kb)) j 0) (subst (λ (n : ℕ). getD (sortedIndexes (ka ++ kb)) j 0 < n) all-long b)) (rank-of (ka ++ kb) j (below j h));
+            let b = rank-below (ka ++ kb) j (below j h) in
+            rank-once (ka ++ kb) (at (getD (sortedIndexes (ka ++ kb)) j 0) (subst (λ (n : ℕ). getD (sortedIndexes (ka ++ kb)) j 0 < n) all-long b)) (rank-of (ka ++ kb) j (below j h));
       }
     where
       at : (k : ℕ) → k < length ranks → Rank (ka ++ kb) k (getD ranks k 0)
       at k h = has-rank k (subst (λ (n : ℕ). k < n) ranks-long h)
+
       below : (j : ℕ) → j < length ranks → j < length (ka ++ kb)
       below j h = subst (λ (n : ℕ). j < n) (sym all-long) h
 
 -- Both runs stored at their ranks stand in order.
-module _ (none : Finding) (first second : List Finding) where
-  row-at : (fs : List Finding) (k : ℕ) → getD (map rowOf fs) k (rowOf none) ≡ rowOf (getD fs k none)
+module _ (first second : List Finding) where
+  row-at : (fs : List Finding) (k : ℕ) → getD (map rowOf fs) k (rowOf noFinding) ≡ rowOf (getD fs k noFinding)
   row-at [] k = refl
   row-at (f ∷ fs) zero = refl
   row-at (f ∷ fs) (suc k) = row-at fs k
 
-  same-rows : (fs : List Finding) (order : List ℕ) → map (λ k. getD (map rowOf fs) k (rowOf none)) order ≡ map rowOf (map (λ k. getD fs k none) order)
+  same-rows : (fs : List Finding) (order : List ℕ) → map (λ k. getD (map rowOf fs) k (rowOf noFinding)) order ≡ map rowOf (map (λ k. getD fs k noFinding) order)
   same-rows fs [] = refl
   same-rows fs (k ∷ ks) = ap₂ (λ (r : Row) (rs : List Row). r ∷ rs) (row-at fs k) (same-rows fs ks)
 
   pub all-in-order : {ra rb : List ℕ} {l l₁ l′ : Columns} → Ranked (map keyOf first) (map keyOf second) ra rb → length first ≤ length ra → length second ≤ length rb
       → Roomy (length first + length second) l → Stored (map rowOf first) (take (length first) ra) l l₁ → Stored (map rowOf second) (take (length second) rb) l₁ l′
-      → AllWritten (map rowOf (inOrder none (first ++ second))) l l′
+      → AllWritten (map rowOf (inOrder (first ++ second))) l l′
   unfolding inOrder
   all-in-order {ra} {rb} {l} {l₁} {l′} R la lb room S T =
       subst (λ (rs : List Row). AllWritten rs l l′) rows-are
-      (all-written (map rowOf (first ++ second)) (rowOf none) (ranks R fa fb) (sortedIndexes (ka ++ kb)) rows-long (inverse R fa fb)
+      (all-written (map rowOf (first ++ second)) (rowOf noFinding) (ranks R fa fb) (sortedIndexes (ka ++ kb)) rows-long (inverse R fa fb)
       (subst (λ (n : ℕ). Roomy n l) (sym (ranks-long R fa fb ∙ ap₂ _+_ a b)) room) stored)
     where
       ka : List ℕ
       ka = map keyOf first
+
       kb : List ℕ
       kb = map keyOf second
+
       a : length ka ≡ length first
       a = length-map first keyOf
+
       b : length kb ≡ length second
       b = length-map second keyOf
+
       fa : length ka ≤ length ra
       fa = rw a la
+
       fb : length kb ≤ length rb
       fb = rw b lb
+
       rows-long : length (map rowOf (first ++ second)) ≡ length (ranks R fa fb)
       rows-long = length-map (first ++ second) rowOf ∙ length-append first second ∙ sym (ranks-long R fa fb ∙ ap₂ _+_ a b)
+
       front : length (map rowOf first) ≡ length (take (length first) ra)
       front = let e = length-take (length first) ra in let m = length-map first rowOf in omega arith
+
       stored : Stored (map rowOf (first ++ second)) (ranks R fa fb) l l′
       stored =
           subst (λ (rs : List Row). Stored rs (ranks R fa fb) l l′) (sym (map-append rowOf first second))
           (subst (λ (ps : List ℕ). Stored (map rowOf first ++ map rowOf second) ps l l′) (ap₂ (λ (m n : ℕ). take m ra ++ take n rb) (sym a) (sym b))
           (stored-then (map rowOf first) (map rowOf second) (take (length first) ra) (take (length second) rb) front S T))
-      rows-are : map (λ k. getD (map rowOf (first ++ second)) k (rowOf none)) (sortedIndexes (ka ++ kb)) ≡ map rowOf (inOrder none (first ++ second))
-      rows-are = same-rows (first ++ second) (sortedIndexes (ka ++ kb)) ∙ ap (λ (ks : List ℕ). map rowOf (map (λ k. getD (first ++ second) k none) (sortedIndexes ks))) (sym (map-append keyOf first second))
+
+      rows-are : map (λ k. getD (map rowOf (first ++ second)) k (rowOf noFinding)) (sortedIndexes (ka ++ kb)) ≡ map rowOf (inOrder (first ++ second))
+      rows-are = same-rows (first ++ second) (sortedIndexes (ka ++ kb)) ∙ ap (λ (ks : List ℕ). map rowOf (map (λ k. getD (first ++ second) k noFinding) (sortedIndexes ks))) (sym (map-append keyOf first second))
 
 -- Parts of one run, one after the other.
 pub stored-on : (rows rows′ : List Row) (m n : ℕ) (ranks : List ℕ) {l l₁ l₂ : Columns} → length rows ≡ m → m ≤ length ranks → Stored rows (take m ranks) l l₁

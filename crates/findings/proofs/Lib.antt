@@ -3,3 +3,5 @@ pub mod Fronts
 pub mod OnPage
 pub mod KeyLoop
 pub mod All
+pub mod Ordered
+pub mod Pairs
