@@ -1,2 +1,3 @@
 -- Why the findings by value are right.
 pub mod Scores
+pub mod Finite
