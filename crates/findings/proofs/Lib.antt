@@ -5,3 +5,4 @@ pub mod KeyLoop
 pub mod All
 pub mod Ordered
 pub mod Pairs
+pub mod Given

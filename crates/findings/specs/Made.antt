@@ -129,12 +129,13 @@ foldFindings s dpi r faint = map (foldAt s dpi r) (folds (s .settings) dpi (r .r
 abbrev pub ticked : List ℕ → List ℕ → ℕ
 ticked marks set = length (keep (λ i. eqb (getD marks i 0) 1) set)
 
-unfoldable pub gridOf : Scan → Boxes → List ℕ → Finding
-gridOf s b set =
-    gridFinding (s .settings) (s .caps) (onPage s (around (b .rects) set)) (length set) (ticked (b .marks) set) (meanAt (b .coverages) set)
+-- The finding of the grid that is a set of boxes, from the boxes' rectangles, marks and coverages.
+unfoldable pub gridOf : Scan → List ℕ → List ℕ → List Float → List ℕ → Finding
+gridOf s rects marks coverages set =
+    gridFinding (s .settings) (s .caps) (onPage s (around rects set)) (length set) (ticked marks set) (meanAt coverages set)
 
 abbrev pub gridFindings : Scan → Boxes → List Finding
-gridFindings s b = map (λ n. gridOf s b (b .set n)) (b .grids)
+gridFindings s b = map (λ n. gridOf s (b .rects) (b .marks) (b .coverages) (b .set n)) (b .grids)
 
 -- ---- all
 

@@ -1,4 +1,5 @@
 // The findings of a page, from what was found on it: the keys and the findings of each kind.
+pub mod grid_findings;
 pub mod page;
 pub mod places;
 pub mod table_findings;
