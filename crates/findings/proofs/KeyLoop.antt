@@ -3,10 +3,10 @@ use mathlib.Core.Path.{_≡_, refl, sym, ap, ap₂, _∙_}
 use mathlib.Core.List.{List, [], _∷_, _++_, map}
 use Prim.Native.Nat.{ℕ, suc, _+_, _≤_, _<_, zero-le}
 use native.Mathlib.Omega.{arith}
-use lib.ListN.{length, set}
+use lib.ListN.{length, getD, set}
 use lib.Seq.{sets, length-sets}
 use Rattle.lists.specs.Lists.{below}
-use Rattle.lists.proofs.Keep.{length-values, values-more}
+use Rattle.lists.proofs.Keep.{length-values, values-more, map-map, by-place}
 
 sets-more : (l vs : List ℕ) (at v : ℕ) → sets l at (vs ++ (v ∷ [])) ≡ set (sets l at vs) (at + length vs) v
 sets-more l [] at v = ap (λ (i : ℕ). set l i v) (none at)
@@ -42,3 +42,7 @@ module _ (g : ℕ → ℕ) (at : ℕ) (keys₀ : List ℕ) where
 
     pub keyed-all : n ≤ k → keys ≡ sets keys₀ at (map g (below n))
     keyed-all l = let e : k ≡ n = omega (arith, K .up-to) in K .stored ∙ ap (λ (i : ℕ). sets keys₀ at (map g (below i))) e
+
+-- the values at the entries of a list, place by place
+pub at-places : (f : ℕ → ℕ) (xs : List ℕ) → map (λ k. f (getD xs k 0)) (below (length xs)) ≡ map f xs
+at-places f xs = sym (map-map f (λ k. getD xs k 0) (below (length xs))) ∙ ap (map f) (by-place xs 0)

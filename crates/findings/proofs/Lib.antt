@@ -1,5 +1,6 @@
 -- Why the findings are right: laws that belong to no one function.
 pub mod Fronts
+pub mod Chosen
 pub mod OnPage
 pub mod KeyLoop
 pub mod All

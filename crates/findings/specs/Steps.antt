@@ -63,3 +63,7 @@ pub record GridRectsGiven (w h : ℕ) (rects : List ℕ) (set : ℕ → List ℕ
 pub record GridsGiven (w h : ℕ) (rects marks : List ℕ) (coverages : List Float) (set : ℕ → List ℕ) (numbers : List ℕ) : Type 0 where
   pub some : (k : ℕ) → k < length numbers → 0 < length (set (getD numbers k 0))
   pub boxes : (k : ℕ) → k < length numbers → AllGiven w h rects marks coverages (set (getD numbers k 0))
+-- Each of some places has a rectangle inside the picture.
+pub record RectsGiven (w h : ℕ) (rects places : List ℕ) : Type 0 where
+  pub rect : (k : ℕ) → k < length places → 4 * getD places k 0 + 4 ≤ length rects
+  pub inside : (k : ℕ) → k < length places → Inside w h (rectAt rects (getD places k 0))
