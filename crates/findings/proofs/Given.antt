@@ -11,13 +11,13 @@ use Rattle.rects.specs.declared.Rect.{Rect}
 use Rattle.rects.specs.Rects.{rectAt, Inside}
 use Rattle.rects.specs.Around.{around, Places}
 use Rattle.rects.proofs.Around.{around-smallest}
-use Rattle.findings.specs.Steps.{AllGiven, RectsGiven, GridRectsGiven, GridsGiven}
+use Rattle.findings.specs.Steps.{AllGiven, SetGiven, GridRectsGiven, GridsGiven}
 
 -- the whole picture
 picture : ℕ → ℕ → Rect
 picture w h = record { x0 = 0; y0 = 0; x1 = w - 1; y1 = h - 1 }
 
-module _ {w h : ℕ} (rects places : List ℕ) (G : RectsGiven w h rects places) where
+module _ {w h : ℕ} (rects places : List ℕ) (G : SetGiven w h rects places) where
   pub places-given : Places rects places
   places-given i m = let a = in-at places i m in subst (λ (j : ℕ). 4 * j + 4 ≤ length rects) (a .2) (G .rect (a .0) (a .1))
 
@@ -38,7 +38,7 @@ module _ {w h : ℕ} (rects places : List ℕ) (G : RectsGiven w h rects places)
         bottom = omega (arith, under .bottom, r .bottom);
       }
 
-pub rects-given : {w h : ℕ} {rects marks : List ℕ} {coverages : List Float} {places : List ℕ} → 0 < length places → AllGiven w h rects marks coverages places → RectsGiven w h rects places
+pub rects-given : {w h : ℕ} {rects marks : List ℕ} {coverages : List Float} {places : List ℕ} → 0 < length places → AllGiven w h rects marks coverages places → SetGiven w h rects places
 rects-given some A = record { some = some; rect = A .given .rect; inside = A .given .inside }
 
 -- what the writing of grids asks is more than what their keys ask

@@ -50,14 +50,14 @@ pub record TablesGiven (w h : ℕ) (bounds rows columns rulings : List ℕ) (sha
   pub columns-few : (k : ℕ) → k < count bounds → getD columns k 0 ≤ 4096
 
 -- There is one of some places at least, and each has a rectangle inside the picture.
-pub record RectsGiven (w h : ℕ) (rects places : List ℕ) : Type 0 where
+pub record SetGiven (w h : ℕ) (rects places : List ℕ) : Type 0 where
   pub some : 0 < length places
   pub rect : (k : ℕ) → k < length places → 4 * getD places k 0 + 4 ≤ length rects
   pub inside : (k : ℕ) → k < length places → Inside w h (rectAt rects (getD places k 0))
 
 -- Each grid, by its set's number, has a member, and each of its members a rectangle inside the picture.
 pub record GridRectsGiven (w h : ℕ) (rects : List ℕ) (set : ℕ → List ℕ) (numbers : List ℕ) : Type 0 where
-  pub each : (k : ℕ) → k < length numbers → RectsGiven w h rects (set (getD numbers k 0))
+  pub each : (k : ℕ) → k < length numbers → SetGiven w h rects (set (getD numbers k 0))
 
 -- Each of its members has a mark and a coverage too.
 pub record GridsGiven (w h : ℕ) (rects marks : List ℕ) (coverages : List Float) (set : ℕ → List ℕ) (numbers : List ℕ) : Type 0 where

@@ -16,7 +16,7 @@ use Rattle.sets.specs.Listing.{membersOf}
 use Rattle.layout.specs.declared.sides.Sides.{Sides}
 use Rattle.layout.specs.ToPage.{rectToPage}
 use Rattle.findings.specs.Keys.{pageKey, gridKey}
-use Rattle.findings.specs.Steps.{RectsGiven, GridRectsGiven}
+use Rattle.findings.specs.Steps.{SetGiven, GridRectsGiven}
 use Rattle.findings.proofs.Given.{places-given, around-inside}
 use Rattle.findings.proofs.KeyLoop.{Keyed, keyed-none, keyed-more, keyed-long, keyed-all}
 use Rattle.findings.proofs.grid_findings.keys.Statement.{statement}
@@ -29,8 +29,8 @@ keyAt sides shear shear-x rects members ends count numbers k = gridKey sides she
 -- a grid's set, as it was read
 module _ {w h : ℕ} (rects set : List ℕ) {part : ℕ → List ℕ} {numbers : List ℕ} {k : ℕ} (G : GridRectsGiven w h rects part numbers) (l : k < length numbers)
     (e : set ≡ part (getD numbers k 0)) where
-  given : RectsGiven w h rects set
-  given = subst (RectsGiven w h rects) (sym e) (G .each k l)
+  given : SetGiven w h rects set
+  given = subst (SetGiven w h rects) (sym e) (G .each k l)
 
   bounded : (0 < length set) × Places rects set
   bounded = (given .some, places-given rects set given)
