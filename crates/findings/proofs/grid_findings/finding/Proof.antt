@@ -1,12 +1,13 @@
 -- `grid_findings::finding` meets its contract: the rectangle is the smallest around the set's boxes, and the set has at most 16,384 of
 -- them, so that each count fits 32 bits.
 use mathlib.Core.Path.{_≡_}
+use mathlib.Core.Bool.{Bool}
 use mathlib.Core.List.{List}
-use Prim.Native.Nat.{ℕ, _≤_}
+use Prim.Native.Nat.{ℕ, _≤_, _<_, _^_}
 use native.Mathlib.Omega.{arith}
-use lib.Dec.{eqb}
 use lib.Ieee.{Float}
-use lib.ListN.{length, getD}
+use lib.ListN.{length}
+use Rattle.lists.specs.Lists.{keep}
 use Rattle.lists.proofs.Sizes.{keep-size-le}
 use Rattle.rects.specs.declared.Rect.{Rect}
 use Rattle.rects.specs.Around.{around}
@@ -26,8 +27,8 @@ from-facts : (s : Scan) (rects marks : List ℕ) (coverages : List Float) (set :
 unfolding gridOf
 from-facts s rects marks coverages set found-is bbox-is r-is t-is mean-is = rw (found-is, bbox-is, r-is, t-is, mean-is)
 
-few-ticked : (marks set : List ℕ) {t : ℕ} → t ≡ ticked marks set → length set ≤ 16384 → t ≤ 16384
-few-ticked marks set e few = let l = keep-size-le (λ i. eqb (getD marks i 0) 1) set in omega arith
+few-kept : (q : ℕ → Bool) (set : List ℕ) → length set ≤ 16384 → length (keep q set) < 2 ^ 32
+few-kept q set few = let l = keep-size-le q set in omega arith
 
 bounding-requires : tie.Need-bounding-requires
 bounding-requires c κs =
@@ -45,7 +46,7 @@ count-equal-requires c κs = search needs
 cast-ticked : tie.Need-cast-ticked
 cast-ticked c =
     let s = c .before .before .before .before .before .before .before in
-    record { fits = omega (arith, few-ticked (s .args .marks .now) (s .args .set .now) (c .count-equal .ensures) (s .pre .2 .given .entries .few)) }
+    record { fits = rw (c .count-equal .ensures) (few-kept _ (s .args .set .now) (s .pre .2 .given .entries .few)) }
 
 mean-requires : tie.Need-mean-requires
 mean-requires c κs = search needs
