@@ -11,7 +11,7 @@ use Rattle.rects.specs.declared.Rect.{Rect}
 use Rattle.rects.specs.Rects.{rectAt, Inside}
 use Rattle.rects.specs.Around.{around, Places}
 use Rattle.rects.proofs.Around.{around-smallest}
-use Rattle.findings.specs.Steps.{AllGiven, SetGiven, GridRectsGiven, GridsGiven}
+use Rattle.findings.specs.Steps.{AllGiven, RectsGiven, SetGiven, GridRectsGiven, GridsGiven}
 
 -- the whole picture
 picture : ℕ → ℕ → Rect
@@ -44,3 +44,7 @@ rects-given some A = record { some = some; rect = A .given .rect; inside = A .gi
 -- what the writing of grids asks is more than what their keys ask
 pub grid-rects-given : {w h : ℕ} {rects marks : List ℕ} {coverages : List Float} {set : ℕ → List ℕ} {numbers : List ℕ} → GridsGiven w h rects marks coverages set numbers → GridRectsGiven w h rects set numbers
 grid-rects-given G = record { each = λ k l. rects-given (G .some k l) (G .boxes k l) }
+
+-- places of which there are enough
+pub enough-given : {w h m : ℕ} {rects places : List ℕ} → 1 ≤ m → m ≤ length places → RectsGiven w h rects places → SetGiven w h rects places
+enough-given a b G = record { some = omega arith; rect = G .rect; inside = G .inside }

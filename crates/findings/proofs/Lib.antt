@@ -7,3 +7,4 @@ pub mod All
 pub mod Ordered
 pub mod Pairs
 pub mod Given
+pub mod Free

@@ -6,6 +6,7 @@ use mathlib.Core.List.{List, map}
 use Prim.Native.Nat.{ℕ, _+_, _-_, _*_, _<_}
 use lib.IntN.{ℤ}
 use lib.ListN.{length, getD}
+use Rattle.lists.specs.Lists.{below}
 use Rattle.math.specs.Constants.{zero}
 use Rattle.order.specs.Order.{sortedIndexes}
 use Rattle.rects.specs.Rects.{rectAt}
@@ -13,9 +14,11 @@ use Rattle.rects.specs.Around.{around}
 use Rattle.layout.specs.declared.sides.Sides.{Sides}
 use Rattle.layout.specs.declared.rect.PageRect.{PageRect}
 use Rattle.layout.specs.ToPage.{rectToPage}
+use Rattle.params.specs.declared.settings.RulingsParams.{RulingsParams}
 use Rattle.evidence.specs.declared.finding.Finding.{Finding}
 use Rattle.evidence.specs.declared.finding.Kind.the-variants.{Fold}
 use Rattle.evidence.specs.Finding.{kindNumber, noEvidence}
+use Rattle.findings.specs.Made.{freeCount}
 
 -- One finding stands before another by page y0, x0, kind number.
 abbrev pub Sooner : Finding → Finding → Type 0
@@ -38,6 +41,10 @@ tableKey sides shear shear-x bounds k = pageKey (rectToPage sides shear shear-x 
 -- The key of the finding of the free rulings at some places.
 abbrev pub freeKey : Sides → List ℤ → List ℤ → List ℕ → List ℕ → ℕ
 freeKey sides shear shear-x rects places = pageKey (rectToPage sides shear shear-x (around rects places)) 17
+
+-- The key of their finding, if there is one.
+abbrev pub freeKeys : Sides → List ℤ → List ℤ → RulingsParams → List ℕ → List ℕ → List ℕ
+freeKeys sides shear shear-x p rects places = map (λ k. freeKey sides shear shear-x rects places) (below (freeCount p places))
 
 -- The key of the finding of the fold that is the ruling at a place.
 abbrev pub foldKey : Sides → List ℤ → List ℤ → List ℕ → ℕ → ℕ

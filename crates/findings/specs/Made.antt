@@ -6,7 +6,7 @@ use lib.Dec.{eqb, leb}
 use lib.IntN.{ℤ}
 use lib.Ieee.{Float, nan, binary64, div}
 use lib.ListN.{length, getD}
-use Rattle.lists.specs.Lists.{below, keep}
+use Rattle.lists.specs.Lists.{one, below, keep}
 use Rattle.math.specs.Sum.{pairwiseSum, valuesAt, whole}
 use Rattle.rects.specs.declared.Rect.{Rect}
 use Rattle.rects.specs.Rects.{widthOf, heightOf, rectAt, count}
@@ -103,9 +103,13 @@ freeOf s r places =
     freeFinding (s .settings) (s .caps) (onPage s (around (r .rects) places)) (length places) (horizontals r places) (verticals r places) (longest r places)
     (meanAt (r .contrasts) places)
 
--- One finding if at least min_free_rules rulings are free.
+-- How many findings free rules at some places make: one if they are at least min_free_rules.
+abbrev pub freeCount : RulingsParams → List ℕ → ℕ
+freeCount p places = one (leb (p .«min_free_rules») (length places))
+
+-- The finding of the free rules, if there is one.
 abbrev pub freeFindings : Scan → Rulings → List ℕ → List ℕ → List Finding
-freeFindings s r printed free = cond (leb (s .settings .«min_free_rules») (length free)) (freeOf s r (freePlaces printed free) ∷ []) []
+freeFindings s r printed free = let places = freePlaces printed free in map (λ k. freeOf s r places) (below (freeCount (s .settings) places))
 
 -- ---- folds
 

@@ -5,6 +5,7 @@ use Prim.Native.Nat.{ℕ, _*_, _+_, _≤_, _<_}
 use lib.IntN.{ℤ}
 use lib.Ieee.{Float}
 use lib.ListN.{length, getD}
+use lib.Seq.{sets}
 use Rattle.lists.specs.Lists.{written}
 use Rattle.math.specs.Sum.{PlacesIn}
 use Rattle.rects.specs.declared.Rect.{Rect}
@@ -38,6 +39,11 @@ pub record Front (xs lent lent′ : List ℕ) (n : ℕ) : Type 0 where
   pub count : n ≡ length xs
   pub list : lent′ ≡ written xs lent
 
+-- Keys were stored from a place of a list on, and how many there are.
+pub record KeysStored (ks : List ℕ) (at : ℕ) (lent lent′ : List ℕ) (n : ℕ) : Type 0 where
+  pub count : n ≡ length ks
+  pub list : lent′ ≡ sets lent at ks
+
 -- Every table has its rectangle inside the picture and an entry in each list, with at most 4,096 rows and as many columns.
 pub record TablesGiven (w h : ℕ) (bounds rows columns rulings : List ℕ) (shares : List Float) : Type 0 where
   pub inside : AllInside w h bounds
@@ -63,6 +69,7 @@ pub record GridRectsGiven (w h : ℕ) (rects : List ℕ) (set : ℕ → List ℕ
 pub record GridsGiven (w h : ℕ) (rects marks : List ℕ) (coverages : List Float) (set : ℕ → List ℕ) (numbers : List ℕ) : Type 0 where
   pub some : (k : ℕ) → k < length numbers → 0 < length (set (getD numbers k 0))
   pub boxes : (k : ℕ) → k < length numbers → AllGiven w h rects marks coverages (set (getD numbers k 0))
+
 -- Each of some places has a rectangle inside the picture.
 pub record RectsGiven (w h : ℕ) (rects places : List ℕ) : Type 0 where
   pub rect : (k : ℕ) → k < length places → 4 * getD places k 0 + 4 ≤ length rects

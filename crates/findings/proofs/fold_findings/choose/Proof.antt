@@ -1,10 +1,9 @@
 -- `fold_findings::choose` meets its contract. The invariant: the folds among the first k faint rulings are listed.
-use mathlib.Core.Path.{_≡_, ap, _∙_}
-use mathlib.Core.Bool.{Bool}
+use mathlib.Core.Path.{ap, _∙_}
 use mathlib.Core.Logic.{⊎-elim}
-use Prim.Native.Nat.{ℕ, _+_, _-_}
+use Prim.Native.Nat.{_-_}
 use native.Mathlib.Omega.{arith}
-use lib.ListN.{length, getD}
+use lib.ListN.{length}
 use Rattle.evidence.specs.Kinds.{isFold}
 use Rattle.findings.specs.Made.{foldInches}
 use Rattle.findings.proofs.Chosen.{Chosen, chosen-none, chosen-one, chosen-past, chosen-all, chosen-moved}
@@ -66,14 +65,14 @@ loop-again c =
     let l = c .before .before .before .before .loop-test .taken in
     let e = c .before .is-fold .ensures ∙ ap (isFold (s .args .p)) (c .before .before .inches .ensures) in
     ⊎-elim
-    (λ w. chosen-moved (chosen-one (λ k. isFold (s .args .p) (foldInches (s .args .dpi) (s .args .rects .now) (s .args .directions .now) k)) (s .args .faint .now) (s .args .out .now) C l (s .pre .1) e (w .0 .taken)) (w .2) (w .3))
-    (λ w. chosen-moved (chosen-past (λ k. isFold (s .args .p) (foldInches (s .args .dpi) (s .args .rects .now) (s .args .directions .now) k)) (s .args .faint .now) (s .args .out .now) C l e (w .0 .left)) (w .1) (w .2)) (c .if1 .came)
+    (λ w. chosen-moved (chosen-one C l (s .pre .1) e (w .0 .taken)) (w .2) (w .3))
+    (λ w. chosen-moved (chosen-past C l e (w .0 .left)) (w .1) (w .2)) (c .if1 .came)
 
 same-length : tie.Need-same-length Inv-loop μ-loop
 same-length c = c .before .loop .inv .long
 
 returns : tie.Need-returns Inv-loop μ-loop
-returns c = let s = c .before .before .before .before .before .before in chosen-all (λ k. isFold (s .args .p) (foldInches (s .args .dpi) (s .args .rects .now) (s .args .directions .now) k)) (s .args .faint .now) (s .args .out .now) (c .before .loop .inv) (c .loop-test .left)
+returns c = chosen-all (c .before .loop .inv) (c .loop-test .left)
 
 pub choose-spec : {M : Type 1} → statement M
 choose-spec =

@@ -1,5 +1,5 @@
 -- `fold_findings::finding` meets its contract: it makes the finding from the rectangle on the page, the length in inches and the contrast.
-use mathlib.Core.Path.{_≡_, ap, ap₂, _∙_}
+use mathlib.Core.Path.{ap, ap₂, _∙_}
 use mathlib.Core.Bool.{not}
 use lib.Ieee.{Float, nan}
 use lib.ListN.{length, getD}
@@ -8,33 +8,34 @@ use Rattle.layout.specs.declared.rect.PageRect.{PageRect}
 use Rattle.layout.specs.ToPage.{rectToPage}
 use Rattle.evidence.specs.Kinds.{foldFinding}
 use Rattle.findings.specs.Made.{foldAt, lying}
-use borrow.Author.Needs.{needs, scaled-fits}
+use borrow.Author.Needs.{scaled-fits}
+use Rattle.findings.proofs.OnPage.{inside-most}
 use Rattle.findings.proofs.fold_findings.finding.Statement.{statement}
 use Rattle.findings.proofs.fold_findings.finding.Tie as tie
 
 rect-at-requires : tie.Need-rect-at-requires
-rect-at-requires c κs = search needs
+rect-at-requires c κs = c .before .before .before .pre .1
 
 on-page-requires : tie.Need-on-page-requires
 on-page-requires c κs = (c .before .before .before .before .pre .0, rw (c .rect-at .ensures) (c .before .before .before .before .pre .2))
 
 inches-requires : tie.Need-inches-requires
-inches-requires c κs = search needs
+inches-requires c κs = let s = c .before .before .before .before .before in (s .pre .1, inside-most (s .pre .0 .sheared) (s .pre .2), s .pre .3)
 
 mul-fold-finding : tie.Need-mul-fold-finding
 mul-fold-finding c = let s = c .before .before .before .before .before .before in scaled-fits (s .args .place) (length (s .args .directions .now)) 4 (s .pre .3) (s .good .1 .1 .1 .1 .1 .1 .1 .0 .1)
 
 shared-slice-read-fold-finding : tie.Need-shared-slice-read-fold-finding
-shared-slice-read-fold-finding c = search needs
+shared-slice-read-fold-finding c = c .before .before .before .before .before .before .before .pre .3
 
 mul-fold-finding-2 : tie.Need-mul-fold-finding-2
 mul-fold-finding-2 c = let s = c .before .before .before .before .before .before .before in scaled-fits (s .args .place) (length (s .args .contrasts .now)) 8 (s .pre .4) (s .good .1 .1 .1 .1 .1 .1 .1 .1 .0 .1)
 
 shared-slice-read-fold-finding-2 : tie.Need-shared-slice-read-fold-finding-2
-shared-slice-read-fold-finding-2 c = search needs
+shared-slice-read-fold-finding-2 c = c .before .before .before .before .before .before .before .before .pre .4
 
 fold-finding-requires : tie.Need-fold-finding-requires
-fold-finding-requires c κs = search needs
+fold-finding-requires c κs = tt
 
 returns : tie.Need-returns
 unfolding foldAt

@@ -1,5 +1,5 @@
 -- `fold_findings::inches` meets its contract: the ruling's length along its direction, divided by the dpi.
-use mathlib.Core.Path.{_≡_, ap, _∙_}
+use mathlib.Core.Path.{ap, _∙_}
 use Prim.Native.Nat.{ℕ}
 use Rattle.rects.specs.declared.Rect.{Rect}
 use Rattle.evidence.specs.Kinds.{inchesOf}

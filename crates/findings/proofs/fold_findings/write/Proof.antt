@@ -1,6 +1,6 @@
 -- `fold_findings::write` meets its contract. The invariant: the findings of the first k folds stand at their ranks.
 use mathlib.Core.List.{map}
-use Prim.Native.Nat.{ℕ, _+_, _-_, _<_}
+use Prim.Native.Nat.{_-_}
 use native.Mathlib.Omega.{arith}
 use denote.Ref.{now}
 use lib.ListN.{length, getD}
