@@ -7,3 +7,4 @@ pub mod Pixels
 pub mod Sampling
 pub mod Lines
 pub mod Mean
+pub mod Bound
