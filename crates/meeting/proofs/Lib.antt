@@ -3,3 +3,4 @@ pub mod Rulings
 pub mod Collecting
 pub mod Joining
 pub mod Crossing
+pub mod Bound
