@@ -7,3 +7,4 @@ pub mod EveryBox
 pub mod Listing
 pub mod Accepted
 pub mod Call
+pub mod Bound
