@@ -1,19 +1,16 @@
 -- An edge coverage is finite and at most 1: a run along a side is at most the side, and rounding doesn't pass a whole number.
-use mathlib.Core.Path.{refl, sym, ap, subst}
-use mathlib.Core.Bool.{Bool, false, not}
+use mathlib.Core.Path.{refl}
+use mathlib.Core.Bool.{Bool, not}
 use mathlib.Core.List.{List, [], _∷_, map, List·Memᴰ·head, List·Memᴰ·tail}
-use Prim.Native.Nat.{ℕ, _*_, _^_, _<_, _≤_}
-use native.Mathlib.Nat.{mul-pos, mul-one, one-mul, le-trans, le-of-eq}
+use Prim.Native.Nat.{ℕ, _<_, _≤_}
+use native.Mathlib.Nat.{le-trans}
 use native.Mathlib.Omega.{arith}
 use lib.Dec.{lit<}
-use lib.Pow.{pow-pos}
-use lib.Ieee.{Float, binary64, div}
+use lib.Ieee.{Float}
 use Rattle.lists.specs.Lists.{In, below}
 use Rattle.lists.proofs.Keep.{kept-in, below-in}
-use Rattle.math.specs.Sum.{whole}
-use Rattle.math.proofs.Value.{div-value}
-use Rattle.math.proofs.Bound.{AtMost, round-at-most, min-at-most}
-use Rattle.math.proofs.Sums.{whole-value}
+use Rattle.math.proofs.Bound.{AtMost, min-at-most}
+use Rattle.math.proofs.Quotient.{quotient-at-most}
 use Rattle.math.proofs.SumBound.{Each}
 use Rattle.rects.specs.Rects.{widthOf, heightOf, count, rectAt, AllInside}
 use Rattle.rects.specs.declared.Rect.{Rect}
@@ -24,12 +21,6 @@ use Rattle.ink.proofs.Runs.{longest-run-is}
 use Rattle.boxes.specs.declared.limits.Limits.{Limits}
 use Rattle.boxes.specs.Tests.{rowOver, columnOver, frameOf, topEdge, bottomEdge, leftEdge, rightEdge, runShare, edgeCoverage}
 use Rattle.boxes.specs.Boxes.{boxIn, trimmed, passedOver, boxOf, chosen, boxesBelow, boxesOf, coveragesOf}
-
--- a quotient of whole numbers isn't above a whole number that the fraction isn't above
-quotient-at-most : (k a n : ℕ) → 0 < n → a ≤ k * n → a ≤ 2 ^ 53 → n ≤ 2 ^ 53 → k < 2 ^ 53 → AtMost k (div binary64 (whole a) (whole n))
-quotient-at-most k a n N h A M K =
-    subst (AtMost k) (sym (div-value binary64 (whole a) (whole n) false false a 1 n 1 (pow-pos 0) N (whole-value a A) (whole-value n M)))
-    (round-at-most binary64 false (a * 1) (1 * n) k (mul-pos (pow-pos 0) N) (le-trans (le-of-eq (mul-one a)) (le-trans h (le-of-eq (ap (λ (z : ℕ). k * z) (sym (one-mul n)))))) K)
 
 -- a run along a side is at most the side
 pub run-share-small : (q : ℕ → Bool) (n : ℕ) → 0 < n → n ≤ 8192 → AtMost 1 (runShare q n)

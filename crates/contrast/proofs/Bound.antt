@@ -1,24 +1,24 @@
 -- A contrast is finite and at most 510 in size: the paper's level and the mean are at most 255 each, and rounding doesn't pass a whole number.
-use mathlib.Core.Path.{sym, ap, subst}
+use mathlib.Core.Path.{sym, subst}
 use mathlib.Core.Bool.{Bool, true, false, cond}
 use mathlib.Core.List.{List, [], _∷_, _++_, map}
-use Prim.Native.Nat.{ℕ, zero, suc, _+_, _*_, _/_, _^_, _<_, _≤_, zero-le, suc-le-suc}
-use native.Mathlib.Nat.{mul-comm, mul-pos, mul-one, one-mul, le-refl, le-trans, le-of-eq}
+use Prim.Native.Nat.{ℕ, zero, suc, _+_, _*_, _/_, _<_, _≤_, zero-le, suc-le-suc}
+use native.Mathlib.Nat.{mul-comm, le-refl, le-trans, le-of-eq}
 use native.Mathlib.Omega.{arith}
 use lib.Dec.{ltb, lit<}
 use lib.Pow.{pow-pos}
 use lib.ListN.{length, getD}
 use lib.Ieee.{Float, binary64, div}
 use Rattle.math.specs.Sum.{pairwiseSum, whole, total}
-use Rattle.math.proofs.Value.{div-value}
-use Rattle.math.proofs.Bound.{AtMost, value-at-most, round-at-most, sub-at-most}
+use Rattle.math.proofs.Bound.{AtMost, value-at-most, sub-at-most}
+use Rattle.math.proofs.Quotient.{quotient-at-most}
 use Rattle.math.proofs.Sums.{EachLe, total-le, sum-bytes, whole-value}
 use Rattle.rects.specs.declared.Rect.{Rect}
 use Rattle.contrast.specs.Pixels.{pixel, span, beside, pixelsIn, samples, darkest}
 use Rattle.contrast.specs.Median.{insert, sorted, median}
 use Rattle.contrast.specs.Contrast.{OnPicture, contrastOf}
-use Rattle.contrast.specs.Counting.{placesAlong}
 use Rattle.contrast.proofs.Lines.{darkest-bytes, darkest-number}
+use Rattle.contrast.proofs.Mean.{places-fit}
 
 -- a raster of bytes
 abbrev pub Bytes : List ℕ → Type 0
@@ -73,17 +73,6 @@ median-small xs h = entry-small (sorted xs) (length xs / 2) (sorted-small xs h)
 
 -- ---- the mean
 
--- a quotient of whole numbers isn't above a whole number that the fraction isn't above
-quotient-at-most : (k s n : ℕ) → 0 < n → s ≤ k * n → s ≤ 2 ^ 53 → n ≤ 2 ^ 53 → k < 2 ^ 53 → AtMost k (div binary64 (whole s) (whole n))
-quotient-at-most k s n N h S M K =
-    subst (AtMost k) (sym (div-value binary64 (whole s) (whole n) false false s 1 n 1 (pow-pos 0) N (whole-value s S) (whole-value n M)))
-    (round-at-most binary64 false (s * 1) (1 * n) k (mul-pos (pow-pos 0) N) (le-trans (le-of-eq (mul-one s)) (le-trans h (le-of-eq (ap (λ (z : ℕ). k * z) (sym (one-mul n)))))) K)
-
--- a ruling has places along it, and at most as many as a side of the picture
-along-fit : (raster : List ℕ) (w h : ℕ) (r : Rect) (horizontal : Bool) → OnPicture raster w h r → (0 < placesAlong r horizontal) × (placesAlong r horizontal ≤ 8192)
-along-fit raster w h r true on = (omega arith, omega (arith, on .narrow, on .inside .wide, on .inside .right))
-along-fit raster w h r false on = (omega arith, omega (arith, on .low, on .inside .high, on .inside .bottom))
-
 pub mean-small : (dark : List ℕ) → EachLe 255 dark → 0 < length dark → length dark ≤ 8192 → AtMost 255 (div binary64 (pairwiseSum (map whole dark)) (whole (length dark)))
 mean-small dark bytes some few =
     let most : total dark ≤ 255 * length dark = le-trans (total-le 255 dark bytes) (le-of-eq (mul-comm (length dark) 255)) in
@@ -99,7 +88,7 @@ contrast-small raster w h r horizontal bytes on =
     let level = median (samples raster w h r horizontal) in
     let bright : level ≤ 255 = median-small (samples raster w h r horizontal) (samples-small raster w bytes h r horizontal) in
     let number = darkest-number raster w r horizontal in
-    let fit = along-fit raster w h r horizontal on in
+    let fit = places-fit raster w h r horizontal on in
     sub-at-most binary64 255 255 (whole level) (div binary64 (pairwiseSum (map whole dark)) (whole (length dark)))
     (value-at-most 255 (whole level) false level 1 (pow-pos 0) (omega arith) (whole-value level (omega arith)))
     (mean-small dark (darkest-bytes raster w r horizontal) (omega arith) (omega arith)) (lit< tt)

@@ -19,7 +19,7 @@ use Rattle.contrast.specs.Counting.{placesAlong}
 use Rattle.contrast.proofs.Lines.{darkest-bytes, darkest-number}
 
 -- a ruling has places along it, and at most as many as a side of the picture
-places-fit : (raster : List ℕ) (w h : ℕ) (r : Rect) (horizontal : Bool) → OnPicture raster w h r → (0 < placesAlong r horizontal) × (placesAlong r horizontal ≤ 8192)
+pub places-fit : (raster : List ℕ) (w h : ℕ) (r : Rect) (horizontal : Bool) → OnPicture raster w h r → (0 < placesAlong r horizontal) × (placesAlong r horizontal ≤ 8192)
 places-fit raster w h r true on = (omega arith, omega (arith, on .narrow, on .inside .wide, on .inside .right))
 places-fit raster w h r false on = (omega arith, omega (arith, on .low, on .inside .high, on .inside .bottom))
 

@@ -1,10 +1,10 @@
 -- Every evidence number is finite where the settings passed their questions and what was measured is bounded: each step stays below 2^53.
-use mathlib.Core.Path.{_≡_, refl, ap₂, _∙_}
+use mathlib.Core.Path.{_≡_, refl, ap₂}
 use mathlib.Core.Bool.{Bool, true, false, _&&_}
 use Prim.Native.Nat.{ℕ, _+_, _*_, _^_, _≤_, _<_}
 use native.Mathlib.Omega.{arith}
 use lib.Dec.{T}
-use lib.Ieee.{Float, binary64, ofBits, sub, mul, div}
+use lib.Ieee.{Float, binary64, ofBits, sub, mul}
 use lib.Ieee.Scale.{finite}
 use Rattle.math.specs.Constants.{zero, half, ten}
 use Rattle.math.specs.Select.{minimumNumber, clampTo}

@@ -1,6 +1,5 @@
 -- A finding from its evidence, where the parts are known by equations.
-use mathlib.Core.Path.{_≡_, ap, ap₂, _∙_}
-use mathlib.Core.Bool.{Bool, true, false, _&&_}
+use mathlib.Core.Path.{_≡_, ap₂, _∙_}
 use lib.Ieee.{Float}
 use Rattle.layout.specs.declared.rect.PageRect.{PageRect}
 use Rattle.evidence.specs.declared.finding.Evidence.{Evidence}

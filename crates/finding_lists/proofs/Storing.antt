@@ -1,9 +1,8 @@
 -- One finding stored in all its lists, and one more row after others.
-use mathlib.Core.Path.{_≡_, refl, sym, ap, ap₂, subst, _∙_}
+use mathlib.Core.Path.{_≡_, refl, sym, ap, subst, _∙_}
 use mathlib.Core.List.{List, [], _∷_, _++_, map}
 use Prim.Native.Nat.{ℕ, _*_, _^_, _≤_, _<_}
 use native.Mathlib.Omega.{arith}
-use lib.Ieee.{Float}
 use lib.ListN.{length, getD, set, length-map}
 use lib.Seq.{sets}
 use Rattle.lists.specs.Lists.{In, concat, written}

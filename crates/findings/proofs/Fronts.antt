@@ -1,12 +1,12 @@
 -- A list gone through from the front: how many entries passed a test, and the greatest value, one entry more a turn.
-use mathlib.Core.Path.{_≡_, refl, sym, ap, _∙_}
+use mathlib.Core.Path.{_≡_, refl, ap, _∙_}
 use mathlib.Core.Bool.{Bool, true, false, cond}
 use mathlib.Core.List.{List, [], _∷_, _++_, map}
-use Prim.Native.Nat.{ℕ, zero, suc, _+_, _≤_, _<_, max}
+use Prim.Native.Nat.{ℕ, _+_, _<_, max}
 use native.Mathlib.Numerals.{add-one}
 use native.Mathlib.Omega.{arith}
 use lib.ListN.{length, getD, take, length-append}
-use lib.Seq.{take-suc, take-all}
+use lib.Seq.{take-suc}
 use Rattle.lists.specs.Lists.{one, keep}
 use Rattle.lists.proofs.Keep.{keep-append, map-append}
 use Rattle.findings.specs.Made.{greatestOf}

@@ -1,5 +1,5 @@
 -- A picture has at most 8,192 columns and rows. A page rectangle is clamped into the page, so its coordinates are below 8,192.
-use Prim.Native.Nat.{ℕ, _-_, _≤_, _<_, min}
+use Prim.Native.Nat.{ℕ, _-_, _≤_, _<_}
 use native.Mathlib.Omega.{arith}
 use mathlib.Core.List.{List}
 use lib.IntN.{ℤ, pos, negsuc}

@@ -8,14 +8,13 @@ use native.Mathlib.Decide.{decLt}
 use native.Mathlib.Omega.{arith}
 use lib.ListN.{length, getD, length-map}
 use Rattle.lists.proofs.Keep.{getD-of}
-use Rattle.order.specs.Order.{Before, keyAt, Sorted, sortedIndexes}
+use Rattle.order.specs.Order.{keyAt, Sorted, sortedIndexes}
 use Rattle.order.proofs.Computed.{sorted-by, sorted-length}
 use Rattle.evidence.specs.declared.finding.Finding.{Finding}
 use Rattle.evidence.specs.declared.finding.Kind.{Kind}
 use Rattle.evidence.specs.declared.finding.Kind.the-variants.{Table, FreeRules, Grid, Fold}
 use Rattle.evidence.specs.Finding.{kindNumber}
 use Rattle.findings.specs.Keys.{Sooner, Level, keyOf, noFinding, inOrder, Stands, Ordered}
-use Rattle.findings.specs.Pairing.{Paired}
 
 -- a kind's number is one of four
 kind-range : (k : Kind) → (16 ≤ kindNumber k) × (kindNumber k < 20)

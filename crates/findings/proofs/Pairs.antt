@@ -2,7 +2,7 @@
 use mathlib.Core.Path.{_≡_, refl, sym, ap, subst, _∙_}
 use mathlib.Core.Logic.{_⊎_, inl, inr, ⊎-elim}
 use mathlib.Core.List.{List, [], _∷_, _++_, map}
-use Prim.Native.Nat.{ℕ, zero, suc, _+_, _-_, _≤_, _<_}
+use Prim.Native.Nat.{ℕ, zero, suc, _+_, _-_, _<_}
 use native.Mathlib.Nat.{not-suc-le-zero, le-of-suc-le-suc}
 use native.Mathlib.Decide.{decLt}
 use native.Mathlib.Omega.{arith}
@@ -12,7 +12,7 @@ use Rattle.lists.specs.Lists.{below}
 use Rattle.lists.proofs.Keep.{length-values, getD-values}
 use Rattle.evidence.specs.declared.finding.Finding.{Finding}
 use Rattle.evidence.specs.Finding.{kindNumber}
-use Rattle.findings.specs.Keys.{inOrder, Stands, Ordered}
+use Rattle.findings.specs.Keys.{Stands, Ordered}
 use Rattle.findings.specs.Pairing.{Paired}
 
 -- what stands in two lists strung together stands in one of them

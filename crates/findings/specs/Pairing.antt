@@ -2,7 +2,6 @@
 use mathlib.Core.Path.{_≡_}
 use mathlib.Core.List.{List}
 use Prim.Native.Nat.{ℕ, _<_}
-use lib.ListN.{length}
 use Rattle.evidence.specs.declared.finding.Finding.{Finding}
 use Rattle.evidence.specs.Finding.{kindNumber}
 use Rattle.findings.specs.Keys.{Stands}

@@ -7,6 +7,7 @@ pub mod Sums
 pub mod Halves
 pub mod SumAt
 pub mod SumBound
+pub mod Quotient
 pub mod Rounded
 pub mod Order
 pub mod Tests

@@ -1,6 +1,6 @@
 -- `finding::finite_evidence` meets its contract.
-use mathlib.Core.Path.{_≡_, ap₂}
-use mathlib.Core.Bool.{Bool, _&&_}
+use mathlib.Core.Path.{ap₂}
+use mathlib.Core.Bool.{_&&_}
 use borrow.Author.Needs.{needs}
 use Rattle.evidence.proofs.finding.finite_evidence.Statement.{statement}
 use Rattle.evidence.proofs.finding.finite_evidence.Tie as tie

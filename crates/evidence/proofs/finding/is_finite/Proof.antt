@@ -2,7 +2,6 @@
 use mathlib.Core.Path.{_≡_, refl, ap, ap₂, _∙_}
 use mathlib.Core.Bool.{Bool, true, false, _&&_}
 use lib.Ieee.{ofBits}
-use Rattle.evidence.specs.declared.finding.Evidence.{Evidence}
 use Rattle.evidence.specs.declared.finding.Finding.{Finding}
 use Rattle.evidence.specs.declared.finding.Kind.{Kind}
 use Rattle.evidence.specs.declared.finding.Kind.the-variants.{Table, FreeRules, Grid, Fold}

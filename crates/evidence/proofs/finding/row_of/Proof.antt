@@ -1,8 +1,7 @@
 -- `finding::row_of` meets its contract, kind by kind.
-use mathlib.Core.Path.{_≡_, sym, ap, _∙_}
+use mathlib.Core.Path.{sym, ap, _∙_}
 use Prim.Native.Nat.{ℕ}
 use lib.Ieee.{Float}
-use Rattle.math.specs.Constants.{zero}
 use Rattle.evidence.specs.declared.finding.Finding.{Finding}
 use Rattle.evidence.specs.declared.finding.Row.{Row}
 use Rattle.evidence.specs.Finding.{rowWith, noEvidence}

@@ -1,11 +1,10 @@
 -- `kinds::fold_finding` meets its contract: its evidence, its length and its log odds are those of the definition.
-use mathlib.Core.Path.{_≡_, ap, ap₂, _∙_}
+use mathlib.Core.Path.{ap, ap₂, _∙_}
 use mathlib.Core.List.{[], _∷_}
 use lib.Ieee.{Float}
 use Rattle.math.specs.Constants.{zero}
 use Rattle.evidence.specs.declared.finding.Evidence.{Evidence}
 use Rattle.evidence.specs.declared.finding.Kind.the-variants.{Fold}
-use Rattle.evidence.specs.declared.finding.Finding.{Finding}
 use Rattle.evidence.specs.Score.{logOdds}
 use Rattle.evidence.specs.Kinds.{foldFinding}
 use borrow.Author.Needs.{needs}

@@ -1,7 +1,6 @@
 -- `kinds::with_two` meets its contract.
 use mathlib.Core.Path.{ap}
 use lib.Ieee.{Float}
-use Rattle.evidence.specs.declared.finding.Finding.{Finding}
 use borrow.Author.Needs.{needs}
 use Rattle.evidence.proofs.kinds.with_two.Statement.{statement}
 use Rattle.evidence.proofs.kinds.with_two.Tie as tie

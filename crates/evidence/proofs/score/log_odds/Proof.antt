@@ -1,5 +1,5 @@
 -- `score::log_odds` meets its contract, step by step.
-use mathlib.Core.Path.{_≡_, ap, _∙_}
+use mathlib.Core.Path.{ap, _∙_}
 use lib.Ieee.{Float, binary64, add}
 use Rattle.math.specs.Constants.{zero}
 use Rattle.math.specs.Select.{clampTo}

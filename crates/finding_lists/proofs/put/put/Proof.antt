@@ -1,7 +1,6 @@
 -- `put::put` meets its contract: the row of the finding goes to every list.
-use mathlib.Core.Path.{_≡_, ap, _∙_}
-use mathlib.Core.List.{List}
-use Prim.Native.Nat.{ℕ, _*_}
+use mathlib.Core.Path.{ap, _∙_}
+use Prim.Native.Nat.{_*_}
 use lib.Seq.{sets}
 use Rattle.rects.specs.declared.Rect.{Rect}
 use Rattle.rects.specs.Rects.{numbersOf}

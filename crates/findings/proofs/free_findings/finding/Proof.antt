@@ -1,5 +1,5 @@
 -- `free_findings::finding` meets its contract: those that are not horizontal are vertical, and no count passes 16,384.
-use mathlib.Core.Path.{_≡_, sym, ap, _∙_}
+use mathlib.Core.Path.{_≡_}
 use mathlib.Core.Bool.{Bool, not}
 use mathlib.Core.List.{List}
 use Prim.Native.Nat.{ℕ, _-_, _≤_, _<_, _^_}

@@ -1,7 +1,6 @@
 -- `free_findings::keys` meets its contract: with too few free rules there is no finding, and otherwise they have one.
-use mathlib.Core.Path.{_≡_, ap, _∙_}
+use mathlib.Core.Path.{ap, _∙_}
 use native.Mathlib.Omega.{arith}
-use Prim.Native.Nat.{_≤_, _<_}
 use Rattle.rects.specs.declared.Rect.{Rect}
 use Rattle.layout.specs.ToPage.{rectToPage}
 use Rattle.findings.specs.Keys.{pageKey}

@@ -4,7 +4,7 @@ use mathlib.Core.List.{List, map}
 use Prim.Native.Nat.{ℕ, _+_, _-_, _≤_, _<_, zero-le}
 use native.Mathlib.Omega.{arith}
 use lib.ListN.{length, getD, set}
-use borrow.Author.Needs.{needs, scaled-fits}
+use borrow.Author.Needs.{scaled-fits}
 use Rattle.lists.specs.Lists.{below, written}
 use Rattle.lists.proofs.Keep.{length-values, values-more, map-map, by-place}
 use Rattle.lists.proofs.Written.{written-length, written-more}

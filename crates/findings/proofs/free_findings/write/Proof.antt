@@ -1,7 +1,4 @@
 -- `free_findings::write` meets its contract: none is stored where there are too few free rules, and else one.
-use mathlib.Core.Path.{_≡_, subst}
-use native.Mathlib.Omega.{arith}
-use Prim.Native.Nat.{_≤_, _<_}
 use Rattle.findings.specs.Made.{freeOf}
 use Rattle.findings.proofs.Free.{too-few, enough, wrote-none, one-room, wrote-one}
 use borrow.Author.Needs.{needs}

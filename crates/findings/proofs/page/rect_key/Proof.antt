@@ -1,5 +1,5 @@
 -- `page::rect_key` meets its contract: page coordinates are below 8,192.
-use mathlib.Core.Path.{_≡_, ap, _∙_}
+use mathlib.Core.Path.{ap, _∙_}
 use Rattle.layout.specs.declared.rect.PageRect.{PageRect}
 use Rattle.findings.specs.Keys.{pageKey}
 use Rattle.findings.proofs.OnPage.{corner-small}

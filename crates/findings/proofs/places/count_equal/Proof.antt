@@ -1,6 +1,6 @@
 -- `places::count_equal` meets its contract. The invariant: how many of the first i are the number.
-use mathlib.Core.Path.{_≡_, refl, sym, ap, _∙_}
-use mathlib.Core.Bool.{Bool, true, false}
+use mathlib.Core.Path.{_≡_, refl, ap, _∙_}
+use mathlib.Core.Bool.{Bool}
 use mathlib.Core.Logic.{⊎-elim}
 use mathlib.Core.List.{List}
 use Prim.Native.Nat.{ℕ, _+_, _-_, _≤_, _<_, zero-le}
@@ -8,10 +8,9 @@ use native.Mathlib.Omega.{arith}
 use lib.Dec.{eqb}
 use lib.ListN.{length, getD, take}
 use lib.Seq.{take-all}
-use borrow.Author.Needs.{needs, scaled-fits}
+use borrow.Author.Needs.{scaled-fits}
 use borrow.Author.Tests.{eq-eqb, ne-eqb}
 use Rattle.lists.specs.Lists.{one, keep}
-use Rattle.lists.proofs.Sizes.{keep-size-le}
 use Rattle.findings.proofs.Fronts.{kept-more}
 use Rattle.findings.proofs.places.count_equal.Statement.{statement}
 use Rattle.findings.proofs.places.count_equal.Tie as tie

@@ -1,6 +1,5 @@
 -- `places::length_of` meets its contract: the side along the ruling.
-use mathlib.Core.Path.{_≡_, sym, ap, _∙_}
-use mathlib.Core.Bool.{Bool}
+use mathlib.Core.Path.{sym, ap, _∙_}
 use Rattle.findings.specs.Made.{lengthOf}
 use borrow.Author.Needs.{needs}
 use Rattle.findings.proofs.places.length_of.Statement.{statement}

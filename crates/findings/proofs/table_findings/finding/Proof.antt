@@ -1,5 +1,5 @@
 -- `table_findings::finding` meets its contract: a table of at most 4,096 rows and columns has at most 2^24 cells.
-use mathlib.Core.Path.{_≡_, ap, _∙_}
+use mathlib.Core.Path.{ap, _∙_}
 use Prim.Native.Nat.{ℕ, _*_, _^_, _≤_}
 use native.Mathlib.Nat.{mul-le-mul}
 use native.Mathlib.Omega.{arith}

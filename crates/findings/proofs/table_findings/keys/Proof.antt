@@ -1,13 +1,11 @@
 -- `table_findings::keys` meets its contract. The invariant: the keys of the first k tables are stored.
-use mathlib.Core.Path.{_≡_, ap, _∙_}
-use mathlib.Core.List.{List}
-use Prim.Native.Nat.{ℕ, _+_, _-_}
+use mathlib.Core.Path.{ap, _∙_}
+use Prim.Native.Nat.{_+_, _-_}
 use native.Mathlib.Omega.{arith}
 use lib.ListN.{length}
-use borrow.Author.Needs.{needs, scaled-fits}
+use borrow.Author.Needs.{scaled-fits}
 use Rattle.rects.specs.declared.Rect.{Rect}
 use Rattle.rects.specs.Rects.{count}
-use Rattle.layout.specs.declared.sides.Sides.{Sides}
 use Rattle.layout.specs.ToPage.{rectToPage}
 use Rattle.findings.specs.Keys.{pageKey, tableKey}
 use Rattle.findings.proofs.KeyLoop.{Keyed, keyed-none, keyed-more, keyed-long, keyed-all}

@@ -1,12 +1,10 @@
 -- `table_findings::write` meets its contract. The invariant: the findings of the first k tables stand at their ranks.
 use mathlib.Core.List.{map}
-use Prim.Native.Nat.{ℕ, _+_, _-_, _<_}
+use Prim.Native.Nat.{_-_}
 use native.Mathlib.Omega.{arith}
 use denote.Ref.{now}
-use lib.ListN.{length}
 use Rattle.rects.specs.Rects.{count}
 use Rattle.finding_lists.proofs.Writing.{Writing, writing-none, writing-room, writing-more, writing-long, writing-all}
-use Rattle.evidence.specs.declared.finding.Finding.{Finding}
 use Rattle.findings.specs.Made.{tableAt}
 use Rattle.findings.proofs.table_findings.write.Statement.{statement}
 use Rattle.findings.proofs.table_findings.write.Tie as tie
