@@ -31,6 +31,10 @@ module _ (p : RulingsParams) (places : List ℕ) where
   pub enough : p .«min_free_rules» ≤ length places → freeCount p places ≡ 1
   enough h = ap one (le-leb (p .«min_free_rules») (length places) h)
 
+  -- the key of the one finding has its place
+  pub key-inside : {at m : ℕ} → p .«min_free_rules» ≤ length places → at + freeCount p places ≤ m → at < m
+  key-inside h l = let e = enough h in omega arith
+
   module _ (sides : Sides) (shear shear-x : List ℤ) (rects : List ℕ) (at : ℕ) (keys : List ℕ) where
     pub no-key : length places < p .«min_free_rules» → KeysStored (freeKeys sides shear shear-x p rects places) at keys keys 0
     no-key h =

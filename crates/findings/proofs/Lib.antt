@@ -8,3 +8,5 @@ pub mod Ordered
 pub mod Pairs
 pub mod Given
 pub mod Free
+pub mod FirstKeys
+pub mod Runs

@@ -2,14 +2,14 @@
 use mathlib.Core.Path.{_≡_}
 use mathlib.Core.Logic.{_⊎_}
 use mathlib.Core.Bool.{false}
-use mathlib.Core.List.{List, map}
+use mathlib.Core.List.{List, _++_, map}
 use Prim.Native.Nat.{ℕ, _+_, _-_, _*_, _<_}
 use lib.IntN.{ℤ}
 use lib.ListN.{length, getD}
 use Rattle.lists.specs.Lists.{below}
 use Rattle.math.specs.Constants.{zero}
 use Rattle.order.specs.Order.{sortedIndexes}
-use Rattle.rects.specs.Rects.{rectAt}
+use Rattle.rects.specs.Rects.{rectAt, count}
 use Rattle.rects.specs.Around.{around}
 use Rattle.layout.specs.declared.sides.Sides.{Sides}
 use Rattle.layout.specs.declared.rect.PageRect.{PageRect}
@@ -53,6 +53,15 @@ foldKey sides shear shear-x rects place = pageKey (rectToPage sides shear shear-
 -- The key of the finding of the grid that is a set of boxes.
 abbrev pub gridKey : Sides → List ℤ → List ℤ → List ℕ → List ℕ → ℕ
 gridKey sides shear shear-x rects set = pageKey (rectToPage sides shear shear-x (around rects set)) 18
+
+-- The keys of the first run: tables, free rules, folds.
+abbrev pub firstKeys : Sides → List ℤ → List ℤ → RulingsParams → List ℕ → List ℕ → List ℕ → List ℕ → List ℕ
+firstKeys sides shear shear-x p bounds rects places folds =
+    map (tableKey sides shear shear-x bounds) (below (count bounds)) ++ freeKeys sides shear shear-x p rects places ++ map (foldKey sides shear shear-x rects) folds
+
+-- The keys of the grids' findings.
+abbrev pub gridKeys : Sides → List ℤ → List ℤ → List ℕ → (ℕ → List ℕ) → List ℕ → List ℕ
+gridKeys sides shear shear-x rects set numbers = map (λ n. gridKey sides shear shear-x rects (set n)) numbers
 
 -- Stands for what lies past the end of a list of findings.
 abbrev pub noFinding : Finding

@@ -1,17 +1,21 @@
 -- What the functions of `findings` ask and leave; none of it is needed to read what a page's findings are.
 use mathlib.Core.Path.{_≡_}
 use mathlib.Core.List.{List}
-use Prim.Native.Nat.{ℕ, _*_, _+_, _≤_, _<_}
+use Prim.Native.Nat.{ℕ, _*_, _+_, _^_, _≤_, _<_}
 use lib.IntN.{ℤ}
 use lib.Ieee.{Float}
 use lib.ListN.{length, getD}
 use lib.Seq.{sets}
 use Rattle.lists.specs.Lists.{written}
 use Rattle.math.specs.Sum.{PlacesIn}
+use Rattle.ranks.specs.Ranks.{Ranked}
 use Rattle.rects.specs.declared.Rect.{Rect}
 use Rattle.rects.specs.Rects.{count, rectAt, Inside, AllInside}
 use Rattle.layout.specs.declared.sides.Sides.{Sides}
 use Rattle.layout.specs.Tables.{Sheared}
+use Rattle.params.specs.declared.settings.RulingsParams.{RulingsParams}
+use Rattle.findings.specs.Made.{freeCount}
+use Rattle.findings.specs.Keys.{firstKeys, gridKeys}
 
 -- The way back to the page is known: the tables pass their questions, and a picture that has a rectangle has a page.
 pub record Mapping (sides : Sides) (shear shear-x : List ℤ) : Type 0 where
@@ -74,3 +78,23 @@ pub record GridsGiven (w h : ℕ) (rects marks : List ℕ) (coverages : List Flo
 pub record RectsGiven (w h : ℕ) (rects places : List ℕ) : Type 0 where
   pub rect : (k : ℕ) → k < length places → 4 * getD places k 0 + 4 ≤ length rects
   pub inside : (k : ℕ) → k < length places → Inside w h (rectAt rects (getD places k 0))
+
+-- What listing the keys of the first run leaves, and how many findings the free rules make.
+pub record FirstKeyed (sides : Sides) (shear shear-x : List ℤ) (p : RulingsParams) (bounds rects places folds keys keys′ : List ℕ) (r : ℕ) : Type 0 where
+  pub rules : r ≡ freeCount p places
+  pub list : keys′ ≡ written (firstKeys sides shear shear-x p bounds rects places folds) keys
+
+-- Keys, orders and ranks have room for the first run and for the grids.
+pub record RankRoom (p : RulingsParams) (bounds places folds numbers keys grid-keys order grid-order ranks grid-ranks : List ℕ) : Type 0 where
+  pub few : count bounds + freeCount p places + length folds + length numbers < 2 ^ 32
+  pub keys-long : count bounds + freeCount p places + length folds ≤ length keys
+  pub order-long : count bounds + freeCount p places + length folds ≤ length order
+  pub ranks-long : count bounds + freeCount p places + length folds ≤ length ranks
+  pub grid-keys-long : length numbers ≤ length grid-keys
+  pub grid-order-long : length numbers ≤ length grid-order
+  pub grid-ranks-long : length numbers ≤ length grid-ranks
+
+-- The ranks of all findings, and how many findings the free rules make.
+pub record AllRanked (sides : Sides) (shear shear-x : List ℤ) (p : RulingsParams) (bounds rects places folds boxes : List ℕ) (set : ℕ → List ℕ) (numbers ranks grid-ranks : List ℕ) (r : ℕ) : Type 0 where
+  pub rules : r ≡ freeCount p places
+  pub ranked : Ranked (firstKeys sides shear shear-x p bounds rects places folds) (gridKeys sides shear shear-x boxes set numbers) ranks grid-ranks

@@ -40,7 +40,7 @@ pub fn keys(
     keys: &mut [u64],
 ) -> usize
     requires { ⌜ Mapping sides (now shear) (now «shear_x») × (1 ≤ p .«min_free_rules») × RectsGiven (sides .w) (sides .h) (now rects) (now places)
-        × (at + 1 ≤ length (now keys)) ⌝ }
+        × (at + freeCount p (now places) ≤ length (now keys)) ⌝ }
     ensures { λ n. ⌜ KeysStored (freeKeys sides (now (shear .entry)) (now («shear_x» .entry)) p (now (rects .entry)) (now (places .entry))) at (now (keys .entry)) (now (keys .exit)) n ⌝ }
 {
     if places.len() < p.min_free_rules as usize {

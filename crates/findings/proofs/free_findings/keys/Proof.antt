@@ -1,12 +1,13 @@
 -- `free_findings::keys` meets its contract: with too few free rules there is no finding, and otherwise they have one.
 use mathlib.Core.Path.{ap, _∙_}
 use native.Mathlib.Omega.{arith}
+use lib.ListN.{length}
 use Rattle.rects.specs.declared.Rect.{Rect}
 use Rattle.layout.specs.ToPage.{rectToPage}
 use Rattle.findings.specs.Keys.{pageKey}
 use Rattle.findings.proofs.Given.{places-given, around-inside, enough-given}
-use Rattle.findings.proofs.Free.{no-key, one-key}
-use borrow.Author.Needs.{needs}
+use Rattle.findings.proofs.Free.{no-key, one-key, key-inside}
+use borrow.Author.Needs.{needs, scaled-fits}
 use Rattle.findings.proofs.free_findings.keys.Statement.{statement}
 use Rattle.findings.proofs.free_findings.keys.Tie as tie
 
@@ -23,10 +24,10 @@ rect-key-requires : tie.Need-rect-key-requires
 rect-key-requires c κs = let s = c .before .before .before .before .before .before in (s .pre .0, rw (c .bounding .ensures) (around-inside (s .args .rects .now) (s .args .places .now) (enough-given (s .pre .1) (c .before .if1 .left) (s .pre .2))), omega arith, omega arith)
 
 mul-keys : tie.Need-mul-keys
-mul-keys c = search needs
+mul-keys c = let s = c .before .before .before .before .before .before .before in scaled-fits (s .args .at) (length (s .args .keys .now)) 8 (key-inside (s .args .p) (s .args .places .now) (c .before .before .if1 .left) (s .pre .3)) (s .good .1 .1 .1 .1 .1 .1 .1 .0 .1)
 
 slice-write-keys : tie.Need-slice-write-keys
-slice-write-keys c = search needs
+slice-write-keys c = let s = c .before .before .before .before .before .before .before in key-inside (s .args .p) (s .args .places .now) (c .before .before .if1 .left) (s .pre .3)
 
 same-length : tie.Need-same-length
 same-length c = search needs
