@@ -68,12 +68,13 @@ pub fn last_line_end(mask: &[u8], w: usize, r: Rect, rows: bool, limit: f64) -> 
     requires { ⌜ Readable (now mask) w r ⌝ }
     ensures { λ k. ⌜ k ≡ lastEnd (λ k. over limit (lineInk (inkAt w (now (mask .entry))) r rows k)) (linesOf r rows) ⌝ }
 {
-    let mut k = lines_of(r, rows);
-    while 0 < k {
-        if is_over(limit, line_count(mask, w, r, rows, k - 1)) {
-            return k;
+    let mut end = lines_of(r, rows);
+    while 0 < end {
+        let last = end - 1;
+        if is_over(limit, line_count(mask, w, r, rows, last)) {
+            return end;
         }
-        k -= 1;
+        end = last;
     }
     0
 }

@@ -33,16 +33,17 @@ pub fn level_question(sides: Sides, gray: &[u8], shear: &[i32], shear_x: &[i32],
     }
     let grey = sides::raster_fits(sides.pw, sides.ph, gray.len());
     let long = tables::tables_long(sides, shear, shear_x);
+    let fit = tables::tables_fit(sides, shear, shear_x);
+    let lent = sides::raster_fits(sides.w, sides.h, room);
     if !(grey & long) {
-        return 3;
+        3
+    } else if !fit {
+        4
+    } else if !lent {
+        14
+    } else {
+        0
     }
-    if !tables::tables_fit(sides, shear, shear_x) {
-        return 4;
-    }
-    if !sides::raster_fits(sides.w, sides.h, room) {
-        return 14;
-    }
-    0
 }
 
 // `level_gray`: the number of the first missed question, and the levelled raster where that is 0.

@@ -33,12 +33,12 @@ pub fn write_sets(
         ⌜ Strung (inOrder (now (listed .entry)) (now («listed_ends» .entry)) count (now (order .entry))) (now (members .entry)) (now (ends .entry)) (now (members .exit)) (now (ends .exit)) ⌝ }
 {
     let mut at = 0;
-    let mut k = 0;
-    while k < count {
-        let set = sets::members_of(listed, listed_ends, count, order[k] as usize);
+    let mut place = 0;
+    while place < count {
+        let set = sets::members_of(listed, listed_ends, count, order[place] as usize);
         at = copy(set, members, at);
-        ends[k] = at as u32;
-        k += 1;
+        ends[place] = at as u32;
+        place += 1;
     }
 }
 

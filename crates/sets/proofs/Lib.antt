@@ -8,6 +8,7 @@ pub mod Ascending
 pub mod Classes
 pub mod Grown
 pub mod Where
+pub mod NotListed
 pub mod Domain
 pub mod Reordered
 pub mod Trails

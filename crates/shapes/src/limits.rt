@@ -15,9 +15,11 @@ pub fn limits_of(p: RulingsParams, xheight: f64) -> Limits
     requires { ⌜ Settled p xheight ⌝ }
     ensures { λ r. ⌜ r ≡ limitsOf p xheight ⌝ }
 {
+    let join = params::pixels::limit(p.join_tol_xh, xheight);
+    let cluster = params::pixels::limit(p.line_cluster_xh, xheight);
     Limits {
-        join: params::pixels::limit(p.join_tol_xh, xheight),
-        cluster: params::pixels::limit(p.line_cluster_xh, xheight),
+        join,
+        cluster,
         min_horizontal: p.table_min_horizontal,
         min_vertical: p.table_min_vertical,
     }

@@ -1,6 +1,7 @@
 -- `boxes::boxes` meets its contract: the guard gives the number, and the core the lists where it is 0. Assumes nothing.
 use borrow.Author.Needs.{needs}
 use mathlib.Core.Path.{_≡_, sym, _∙_}
+use native.Mathlib.Omega.{arith}
 use Rattle.boxes.proofs.Accepted.{accepted-ready}
 use Rattle.boxes.proofs.Call.{accepted, refused}
 use Rattle.boxes.proofs.boxes.Statement.{statement}
@@ -10,7 +11,7 @@ missed-requires : tie.Need-missed-requires
 missed-requires c κs = search needs
 
 returns : tie.Need-returns
-returns c = let a = c .before .before .before .before .before .before .before .args in refused (a .w) (a .h) (a .dpi) (a .xheight) (a .ink .now) (a .glyphs .now) (a .p) (c .before .missed .ensures) (c .if1 .taken)
+returns c = let a = c .before .before .before .before .before .before .before .args in refused (a .w) (a .h) (a .dpi) (a .xheight) (a .ink .now) (a .glyphs .now) (a .p) (c .before .missed .ensures) (λ z. omega (arith, z, c .if1 .taken))
 
 limits-of-requires : tie.Need-limits-of-requires
 limits-of-requires c κs = search needs

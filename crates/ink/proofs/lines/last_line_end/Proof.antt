@@ -28,8 +28,8 @@ lines-of-requires c κs = search needs
 loop-holds : tie.Need-loop-holds Inv-loop μ-loop
 loop-holds c = (omega arith, refl)
 
-sub-line-count : tie.Need-sub-line-count Inv-loop μ-loop
-sub-line-count c = omega arith
+sub-last : tie.Need-sub-last Inv-loop μ-loop
+sub-last c = omega arith
 
 line-count-requires : tie.Need-line-count-requires Inv-loop μ-loop
 line-count-requires c κs = (c .before .before .before .before .pre, omega (arith, c .before .before .lines-of .ensures))
@@ -38,17 +38,14 @@ is-over-requires : tie.Need-is-over-requires Inv-loop μ-loop
 is-over-requires c κs = tt
 
 -- the test of the line in hand
-found : (c : tie.After-is-over Inv-loop μ-loop) → let a = c .before .before .before .before .before .before .args in c .is-over .result ≡ test (a .mask .now) (a .w) (a .r) (a .rows) (a .limit) (c .before .before .before .loop .k - 1)
+found : (c : tie.After-is-over Inv-loop μ-loop) → let a = c .before .before .before .before .before .before .args in c .is-over .result ≡ test (a .mask .now) (a .w) (a .r) (a .rows) (a .limit) (c .before .before .before .loop .end - 1)
 found c = let a = c .before .before .before .before .before .before .args in c .is-over .ensures ∙ ap (over (a .limit)) (c .before .line-count .ensures)
 
 returns : tie.Need-returns Inv-loop μ-loop
 returns c =
     let a = c .before .before .before .before .before .before .before .args in
     let q = test (a .mask .now) (a .w) (a .r) (a .rows) (a .limit) in
-    sym (last-found q (c .before .before .before .before .loop .k) (c .before .before .before .loop-test .taken) (sym (found (c .before)) ∙ c .if1 .taken)) ∙ c .before .before .before .before .loop .inv .1 ∙ ap (lastEnd q) (c .before .before .before .before .before .lines-of .ensures)
-
-sub-k : tie.Need-sub-k Inv-loop μ-loop
-sub-k c = omega arith
+    sym (last-found q (c .before .before .before .before .loop .end) (c .before .before .before .loop-test .taken) (sym (found (c .before)) ∙ c .if1 .taken)) ∙ c .before .before .before .before .loop .inv .1 ∙ ap (lastEnd q) (c .before .before .before .before .before .lines-of .ensures)
 
 loop-less : tie.Need-loop-less Inv-loop μ-loop
 loop-less c = omega arith
@@ -57,13 +54,13 @@ loop-again : tie.Need-loop-again Inv-loop μ-loop
 loop-again c =
     let a = c .before .before .before .before .before .before .before .args in
     let q = test (a .mask .now) (a .w) (a .r) (a .rows) (a .limit) in
-    (omega arith, sym (last-passed q (c .before .before .before .before .loop .k) (c .before .before .before .loop-test .taken) (sym (found (c .before)) ∙ c .if1 .left)) ∙ c .before .before .before .before .loop .inv .1)
+    (omega arith, sym (last-passed q (c .before .before .before .before .loop .end) (c .before .before .before .loop-test .taken) (sym (found (c .before)) ∙ c .if1 .left)) ∙ c .before .before .before .before .loop .inv .1)
 
 returns-2 : tie.Need-returns-2 Inv-loop μ-loop
 returns-2 c =
     let a = c .before .before .before .before .args in
     let q = test (a .mask .now) (a .w) (a .r) (a .rows) (a .limit) in
-    sym (last-none q (c .before .loop .k) (c .loop-test .left)) ∙ c .before .loop .inv .1 ∙ ap (lastEnd q) (c .before .before .lines-of .ensures)
+    sym (last-none q (c .before .loop .end) (c .loop-test .left)) ∙ c .before .loop .inv .1 ∙ ap (lastEnd q) (c .before .before .lines-of .ensures)
 
 pub last-line-end-spec : {M : Type 1} → statement M
 last-line-end-spec =
@@ -73,11 +70,10 @@ last-line-end-spec =
     μ-loop
     lines-of-requires
     loop-holds
-    sub-line-count
+    sub-last
     line-count-requires
     is-over-requires
     returns
-    sub-k
     loop-less
     loop-again
     returns-2)

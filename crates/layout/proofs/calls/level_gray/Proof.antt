@@ -1,5 +1,6 @@
 -- `layout::calls::level_gray` meets its contract: refused, nothing is written; accepted, the core levels. Assumes nothing.
 use mathlib.Core.Path.{sym, _∙_}
+use native.Mathlib.Omega.{arith}
 use Rattle.layout.proofs.Guards.{level-refused, level-accepted, ready-yes}
 use borrow.Author.Needs.{needs}
 use Rattle.layout.proofs.calls.level_gray.Statement.{statement}
@@ -9,7 +10,7 @@ level-question-requires : tie.Need-level-question-requires
 level-question-requires c κs = search needs
 
 returns : tie.Need-returns
-returns c = let a = c .before .before .before .before .args in level-refused (a .sides) (a .shear .now) (a .shear-x .now) (a .gray .now) (a .out .now) (c .before .level-question .result) (c .before .level-question .ensures) (c .if1 .taken)
+returns c = let a = c .before .before .before .before .args in level-refused (a .sides) (a .shear .now) (a .shear-x .now) (a .gray .now) (a .out .now) (c .before .level-question .result) (c .before .level-question .ensures) (λ z. omega (arith, z, c .if1 .taken))
 
 level-requires : tie.Need-level-requires
 level-requires c κs = let a = c .before .before .before .before .before .args in ready-yes (a .sides) (a .shear .now) (a .shear-x .now) (a .gray .now) (a .out .now) (sym (c .before .before .level-question .ensures) ∙ c .before .if1 .left)

@@ -33,23 +33,23 @@ tables-long-requires c κs = search needs
 three : (c : tie.After-tables-long) → let a = c .before .before .before .before .before .args in c .before .raster-fits .result && c .tables-long .result ≡ rasterFits (a .sides .pw) (a .sides .ph) (length (a .gray .now)) && tablesLong (a .sides) (a .shear .now) (a .shear-x .now)
 three c = ap₂ _&&_ (c .before .raster-fits .ensures) (c .tables-long .ensures)
 
-returns-2 : tie.Need-returns-2
-returns-2 c = simp (one (c .before .before .before), sym (three (c .before)) ∙ not-true _ (c .if2 .taken))
-
 tables-fit-requires : tie.Need-tables-fit-requires
-tables-fit-requires c κs = let s = sides (c .before .before .before) in (s .page-wide, s .page-high)
-
-returns-3 : tie.Need-returns-3
-returns-3 c = simp (one (c .before .before .before .before .before), sym (three (c .before .before .before)) ∙ not-false _ (c .before .before .if2 .left), sym (c .before .tables-fit .ensures) ∙ not-true _ (c .if3 .taken))
+tables-fit-requires c κs = let s = sides (c .before .before) in (s .page-wide, s .page-high)
 
 raster-fits-requires-2 : tie.Need-raster-fits-requires-2
-raster-fits-requires-2 c κs = let s = sides (c .before .before .before .before .before) in (s .w-most, s .h-most)
+raster-fits-requires-2 c κs = let s = sides (c .before .before .before) in (s .w-most, s .h-most)
+
+returns-2 : tie.Need-returns-2
+returns-2 c = simp (one (c .before .before .before .before .before), sym (three (c .before .before .before)) ∙ not-true _ (c .if2 .taken))
+
+returns-3 : tie.Need-returns-3
+returns-3 c = simp (one (c .before .before .before .before .before .before), sym (three (c .before .before .before .before)) ∙ not-false _ (c .before .if2 .left), sym (c .before .before .before .tables-fit .ensures) ∙ not-true _ (c .if3 .taken))
 
 returns-4 : tie.Need-returns-4
-returns-4 c = simp (one (c .before .before .before .before .before .before .before), sym (three (c .before .before .before .before .before)) ∙ not-false _ (c .before .before .before .before .if2 .left), sym (c .before .before .before .tables-fit .ensures) ∙ not-false _ (c .before .before .if3 .left), sym (c .before .raster-fits2 .ensures) ∙ not-true _ (c .if4 .taken))
+returns-4 c = simp (one (c .before .before .before .before .before .before .before), sym (three (c .before .before .before .before .before)) ∙ not-false _ (c .before .before .if2 .left), sym (c .before .before .before .before .tables-fit .ensures) ∙ not-false _ (c .before .if3 .left), sym (c .before .before .before .raster-fits2 .ensures) ∙ not-true _ (c .if4 .taken))
 
 returns-5 : tie.Need-returns-5
-returns-5 c = simp (one (c .before .before .before .before .before .before .before), sym (three (c .before .before .before .before .before)) ∙ not-false _ (c .before .before .before .before .if2 .left), sym (c .before .before .before .tables-fit .ensures) ∙ not-false _ (c .before .before .if3 .left), sym (c .before .raster-fits2 .ensures) ∙ not-false _ (c .if4 .left))
+returns-5 c = simp (one (c .before .before .before .before .before .before .before), sym (three (c .before .before .before .before .before)) ∙ not-false _ (c .before .before .if2 .left), sym (c .before .before .before .before .tables-fit .ensures) ∙ not-false _ (c .before .if3 .left), sym (c .before .before .before .raster-fits2 .ensures) ∙ not-false _ (c .if4 .left))
 
 pub level-question-spec : {M : Type 1} → statement M
-level-question-spec = tie.close (tie.spec sides-fit-requires returns raster-fits-requires tables-long-requires returns-2 tables-fit-requires returns-3 raster-fits-requires-2 returns-4 returns-5)
+level-question-spec = tie.close (tie.spec sides-fit-requires returns raster-fits-requires tables-long-requires tables-fit-requires raster-fits-requires-2 returns-2 returns-3 returns-4 returns-5)

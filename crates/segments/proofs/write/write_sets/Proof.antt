@@ -70,13 +70,13 @@ loop-holds c =
 mul-members-of : tie.Need-mul-members-of Inv-loop μ-loop
 mul-members-of c =
     let start = c .before .before .before .before .before .before .before in
-    scaled-fits (c .before .loop .k) (length (start .args .order .now)) 4 (omega (arith, c .loop-test .taken, start .pre .0)) (start .good .0 .1)
+    scaled-fits (c .before .loop .place) (length (start .args .order .now)) 4 (omega (arith, c .loop-test .taken, start .pre .0)) (start .good .0 .1)
 
 shared-slice-read-members-of : tie.Need-shared-slice-read-members-of Inv-loop μ-loop
 shared-slice-read-members-of c = omega (arith, c .before .loop-test .taken, c .before .before .before .before .before .before .before .before .pre .0)
 
 cast-members-of : tie.Need-cast-members-of Inv-loop μ-loop
-cast-members-of c = omega (arith, c .shared-slice-known4 .given (c .before .before .loop .k))
+cast-members-of c = omega (arith, c .shared-slice-known4 .given (c .before .before .loop .place))
 
 members-of-requires : tie.Need-members-of-requires Inv-loop μ-loop
 members-of-requires c κs = tt
@@ -85,27 +85,27 @@ copy-requires : tie.Need-copy-requires Inv-loop μ-loop
 copy-requires c κs =
     let start = c .before .before .before .before .before .before .before .before .before .before in
     let a = start .args in
-    fits (a .listed .now) (a .listed-ends .now) (a .count) (a .order .now) (a .members .now) (a .ends .now) (c .before .before .before .before .loop .members) (c .before .before .before .before .loop .ends) (c .before .before .before .before .loop .at) (c .before .before .before .before .loop .k) (c .before .before .before .before .loop .inv) (c .before .before .before .loop-test .taken) (start .pre .1) (c .before .members-of .ensures)
+    fits (a .listed .now) (a .listed-ends .now) (a .count) (a .order .now) (a .members .now) (a .ends .now) (c .before .before .before .before .loop .members) (c .before .before .before .before .loop .ends) (c .before .before .before .before .loop .at) (c .before .before .before .before .loop .place) (c .before .before .before .before .loop .inv) (c .before .before .before .loop-test .taken) (start .pre .1) (c .before .members-of .ensures)
 
 cast-ends : tie.Need-cast-ends Inv-loop μ-loop
 cast-ends c =
     let start = c .before .before .before .before .before .before .before .before .before .before .before .before .before in
     let a = start .args in
-    record { fits = end-small (a .listed .now) (a .listed-ends .now) (a .count) (a .order .now) (a .members .now) (a .ends .now) (c .before .before .before .before .before .before .before .loop .members) (c .before .before .before .before .before .before .before .loop .ends) (c .before .before .before .before .before .before .before .loop .at) (c .before .before .before .before .before .before .before .loop .k) (c .before .before .before .before .before .before .before .loop .inv) (c .before .before .before .before .before .before .loop-test .taken) (start .pre .1) (c .before .before .before .before .members-of .ensures) (c .before .before .copy .ensures) }
+    record { fits = end-small (a .listed .now) (a .listed-ends .now) (a .count) (a .order .now) (a .members .now) (a .ends .now) (c .before .before .before .before .before .before .before .loop .members) (c .before .before .before .before .before .before .before .loop .ends) (c .before .before .before .before .before .before .before .loop .at) (c .before .before .before .before .before .before .before .loop .place) (c .before .before .before .before .before .before .before .loop .inv) (c .before .before .before .before .before .before .loop-test .taken) (start .pre .1) (c .before .before .before .before .members-of .ensures) (c .before .before .copy .ensures) }
 
 mul-ends : tie.Need-mul-ends Inv-loop μ-loop
 mul-ends c =
     let start = c .before .before .before .before .before .before .before .before .before .before .before .before .before in
-    scaled-fits (c .before .before .before .before .before .before .before .loop .k) (length (start .args .ends .now)) 4 (omega (arith, c .before .before .before .before .before .before .loop-test .taken, start .pre .1 .ends, length-values (nth (start .args .listed .now) (start .args .listed-ends .now) (start .args .count) (start .args .order .now)) (start .args .count))) (start .good .1 .1 .1 .1 .1 .0 .1)
+    scaled-fits (c .before .before .before .before .before .before .before .loop .place) (length (start .args .ends .now)) 4 (omega (arith, c .before .before .before .before .before .before .loop-test .taken, start .pre .1 .ends, length-values (nth (start .args .listed .now) (start .args .listed-ends .now) (start .args .count) (start .args .order .now)) (start .args .count))) (start .good .1 .1 .1 .1 .1 .0 .1)
 
 slice-write-ends : tie.Need-slice-write-ends Inv-loop μ-loop
 slice-write-ends c =
     let start = c .before .before .before .before .before .before .before .before .before .before .before .before .before in
     let a = start .args in
-    end-room (a .listed .now) (a .listed-ends .now) (a .count) (a .order .now) (a .members .now) (a .ends .now) (c .before .before .before .before .before .before .before .loop .members) (c .before .before .before .before .before .before .before .loop .ends) (c .before .before .before .before .before .before .before .loop .at) (c .before .before .before .before .before .before .before .loop .k) (c .before .before .before .before .before .before .before .loop .inv) (c .before .before .before .before .before .before .loop-test .taken) (start .pre .1)
+    end-room (a .listed .now) (a .listed-ends .now) (a .count) (a .order .now) (a .members .now) (a .ends .now) (c .before .before .before .before .before .before .before .loop .members) (c .before .before .before .before .before .before .before .loop .ends) (c .before .before .before .before .before .before .before .loop .at) (c .before .before .before .before .before .before .before .loop .place) (c .before .before .before .before .before .before .before .loop .inv) (c .before .before .before .before .before .before .loop-test .taken) (start .pre .1)
 
-add-k : tie.Need-add-k Inv-loop μ-loop
-add-k c = omega (arith, c .before .before .before .before .before .before .loop-test .taken, c .before .before .before .before .before .before .before .before .before .before .before .before .before .fits)
+add-place : tie.Need-add-place Inv-loop μ-loop
+add-place c = omega (arith, c .before .before .before .before .before .before .loop-test .taken, c .before .before .before .before .before .before .before .before .before .before .before .before .before .fits)
 
 loop-less : tie.Need-loop-less Inv-loop μ-loop
 loop-less c = omega (arith, c .before .before .before .before .before .before .loop-test .taken)
@@ -114,7 +114,7 @@ loop-again : tie.Need-loop-again Inv-loop μ-loop
 loop-again c =
     let start = c .before .before .before .before .before .before .before .before .before .before .before .before .before in
     let a = start .args in
-    turn (a .listed .now) (a .listed-ends .now) (a .count) (a .order .now) (a .members .now) (a .ends .now) (c .before .before .before .before .before .before .before .loop .members) (c .before .before .before .before .before .before .before .loop .ends) (c .before .before .before .before .before .before .before .loop .at) (c .before .before .before .before .before .before .before .loop .k) (c .before .before .before .before .before .before .before .loop .inv) (c .before .before .before .before .before .before .loop-test .taken) (start .pre .1) (c .before .before .before .before .members-of .ensures) (c .before .before .copy .kept .1 .0) (c .before .before .copy .ensures)
+    turn (a .listed .now) (a .listed-ends .now) (a .count) (a .order .now) (a .members .now) (a .ends .now) (c .before .before .before .before .before .before .before .loop .members) (c .before .before .before .before .before .before .before .loop .ends) (c .before .before .before .before .before .before .before .loop .at) (c .before .before .before .before .before .before .before .loop .place) (c .before .before .before .before .before .before .before .loop .inv) (c .before .before .before .before .before .before .loop-test .taken) (start .pre .1) (c .before .before .before .before .members-of .ensures) (c .before .before .copy .kept .1 .0) (c .before .before .copy .ensures)
 
 same-length : tie.Need-same-length Inv-loop μ-loop
 same-length c = c .before .loop .inv .members-long
@@ -125,7 +125,7 @@ same-length-2 c = c .before .loop .inv .ends-long
 returns : tie.Need-returns Inv-loop μ-loop
 returns c =
     let a = c .before .before .before .before .before .before .before .args in
-    let end : c .before .loop .k ≡ a .count = omega (arith, c .before .loop .inv .up-to, c .loop-test .left) in
+    let end : c .before .loop .place ≡ a .count = omega (arith, c .before .loop .inv .up-to, c .loop-test .left) in
     record { members = rw end at (c .before .loop .inv .members); ends = rw end at (c .before .loop .inv .ends) }
 
 pub write-sets-spec : {M : Type 1} → statement M
@@ -143,7 +143,7 @@ write-sets-spec =
     cast-ends
     mul-ends
     slice-write-ends
-    add-k
+    add-place
     loop-less
     loop-again
     same-length

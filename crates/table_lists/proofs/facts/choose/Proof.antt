@@ -205,7 +205,7 @@ add-tables c =
 append-requires : tie.Need-append-requires Inv-loop μ-loop
 append-requires c κs =
     let start = c .before .before .before .before .before .before .before .before .before .before .before .before .before .before .before .before .before .before .before .before .before .before .before .before .before .before .before in
-    fits _ _ _ _ _ _ _ _ _ _ _ (start .pre .0 .1) (start .pre .1) (c .before .before .before .before .before .before .before .before .before .before .before .before .before .before .loop .inv) (c .before .before .before .before .before .before .before .before .before .before .before .before .before .loop-test .taken) (c .before .before .before .before .before .before .before .before .before .before .before .before .members-of .ensures)
+    omega (arith, fits _ _ _ _ _ _ _ _ _ _ _ (start .pre .0 .1) (start .pre .1) (c .before .before .before .before .before .before .before .before .before .before .before .before .before .before .loop .inv) (c .before .before .before .before .before .before .before .before .before .before .before .before .before .loop-test .taken) (c .before .before .before .before .before .before .before .before .before .before .before .before .members-of .ensures))
 
 add-k : tie.Need-add-k Inv-loop μ-loop
 add-k c =
