@@ -24,15 +24,28 @@ fn sorted_at(positions: &[u64], order: &[u32], i: usize) -> u64
     positions[index]
 }
 
-// The line that follows, or the same one.
-fn next_line(line: u32, begins: bool) -> u32
-    requires { ⌜ line + 1 < 2 ^ 32 ⌝ }
-    ensures { λ r. ⌜ r ≡ cond begins (suc line) line ⌝ }
+// The line in hand: its number, and its last position.
+pub struct Line {
+    pub number: u32,
+    pub last: u64,
+}
+
+// The line of the position that follows: the same one, which goes on from there, or a new one.
+fn next_line(line: Line, limit: u64, position: u64) -> Line
+    requires { ⌜ line .number + 1 < 2 ^ 32 ⌝ }
+    ensures { λ r. ⌜ (r .number ≡ cond (exceeds limit (line .last) position) (suc (line .number)) (line .number)) × (r .last ≡ position) ⌝ }
 {
-    if begins {
-        return line + 1;
+    if !exceeds(limit, line.last, position) {
+        return Line {
+            number: line.number,
+            last: position,
+        };
     }
-    line
+    let number = line.number + 1;
+    Line {
+        number,
+        last: position,
+    }
 }
 
 // Writes the line number of each position, in the sorted order that is given, and returns how many lines there are.
@@ -44,17 +57,17 @@ fn number(positions: &[u64], order: &[u32], limit: u64, numbers: &mut [u32]) -> 
     if n == 0 {
         return 0;
     }
-    let mut last = sorted_at(positions, order, 0);
-    let mut line: u32 = 0;
+    let mut line = Line {
+        number: 0,
+        last: sorted_at(positions, order, 0),
+    };
     let mut i = 0;
     while i < n {
-        let position = sorted_at(positions, order, i);
-        line = next_line(line, exceeds(limit, last, position));
-        numbers[i] = line;
-        last = position;
+        line = next_line(line, limit, sorted_at(positions, order, i));
+        numbers[i] = line.number;
         i += 1;
     }
-    line as usize + 1
+    line.number as usize + 1
 }
 
 // The line number of each position: `order` takes the indexes in sorted order, ties by index, and `numbers` the line of each beside them.

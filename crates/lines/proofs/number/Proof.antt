@@ -1,6 +1,6 @@
 -- `lines::number` meets its contract: after i turns the first i places have their line numbers.
 use mathlib.Core.Path.{_≡_, refl, sym, ap, _∙_}
-use mathlib.Core.Bool.{Bool, cond}
+use mathlib.Core.Bool.{cond}
 use mathlib.Core.List.{List, [], _∷_, _++_, map}
 use Prim.Native.Nat.{ℕ, zero, suc, _+_, _-_, _≤_, _<_, _^_}
 use native.Mathlib.Omega.{arith}
@@ -32,12 +32,12 @@ module _ (positions : List ℕ) (limit : ℕ) (l : List ℕ) where
   unfolding lineAt
   begun e = record { up-to = omega arith; long = refl; content = refl; last-is = e; line-is = refl }
 
-  turn : {n : ℕ} {l′ : List ℕ} {last line i position line′ : ℕ} {begins : Bool} → Walk positions limit n l l′ last line i → i < n → n ≤ length l
-      → position ≡ getD (inOrder positions) i 0 → begins ≡ exceeds limit last position → line′ ≡ cond begins (suc line) line
-      → Walk positions limit n l (set l′ i line′) position line′ (i + 1)
-  turn {l′ = l′} {i = i} {line′ = line′} W h room p b e =
+  turn : {n : ℕ} {l′ : List ℕ} {last line i position last′ line′ : ℕ} → Walk positions limit n l l′ last line i → i < n → n ≤ length l
+      → position ≡ getD (inOrder positions) i 0 → line′ ≡ cond (exceeds limit last position) (suc line) line → last′ ≡ position
+      → Walk positions limit n l (set l′ i line′) last′ line′ (i + 1)
+  turn {l′ = l′} {i = i} {line′ = line′} W h room p e q =
       let f = lineAt limit (inOrder positions) in
-      let same : line′ ≡ f i = line-next limit (inOrder positions) i (W .last-is) (W .line-is) p b e in
+      let same : line′ ≡ f i = line-next limit (inOrder positions) i (W .last-is) (W .line-is) p refl e in
       let past : prior (i + 1) ≡ i = ap prior (add-one i) in
       record {
         up-to = omega arith;
@@ -45,7 +45,7 @@ module _ (positions : List ℕ) (limit : ℕ) (l : List ℕ) where
         content =
             written-more (map f (below i)) l line′ (W .content) (length-values f i) (omega arith)
             (values-more f i ∙ ap (λ (v : ℕ). map f (below i) ++ (v ∷ [])) (sym same));
-        last-is = p ∙ ap (λ (k : ℕ). getD (inOrder positions) k 0) (sym past);
+        last-is = q ∙ p ∙ ap (λ (k : ℕ). getD (inOrder positions) k 0) (sym past);
         line-is = same ∙ ap f (sym past);
       }
 
@@ -70,10 +70,10 @@ at-most zero l h k = omega arith
 at-most (suc i) l h k = omega arith
 
 abbrev Inv-loop : tie.InvT-loop
-Inv-loop positions order limit numbers₀ n last₀ line₀ i₀ numbers last line i = Walk positions limit n numbers₀ numbers last line i
+Inv-loop positions order limit numbers₀ n line₀ i₀ numbers line i = Walk positions limit n numbers₀ numbers (line .last) (line .number) i
 
 abbrev μ-loop : tie.MeasureT-loop
-μ-loop positions order limit numbers₀ n last₀ line₀ i₀ numbers last line i = n - i
+μ-loop positions order limit numbers₀ n line₀ i₀ numbers line i = n - i
 
 returns : tie.Need-returns Inv-loop μ-loop
 returns c =
@@ -91,53 +91,50 @@ loop-holds c =
 sorted-at-requires-2 : tie.Need-sorted-at-requires-2 Inv-loop μ-loop
 sorted-at-requires-2 c κs = (c .before .before .before .before .before .before .before .pre .1, c .loop-test .taken)
 
-exceeds-requires : tie.Need-exceeds-requires Inv-loop μ-loop
-exceeds-requires c κs = search needs
-
 next-line-requires : tie.Need-next-line-requires Inv-loop μ-loop
 next-line-requires c κs =
-    let start = c .before .before .before .before .before .before .before .before .before in
-    let low = line-fits (start .args .positions .now) (start .args .limit) (start .args .numbers .now) (c .before .before .before .loop .inv) in
-    small (c .before .before .before .loop .i) low (c .before .before .loop-test .taken) (start .pre .0 .small)
+    let start = c .before .before .before .before .before .before .before .before in
+    let low = line-fits (start .args .positions .now) (start .args .limit) (start .args .numbers .now) (c .before .before .loop .inv) in
+    small (c .before .before .loop .i) low (c .before .loop-test .taken) (start .pre .0 .small)
 
 mul-numbers : tie.Need-mul-numbers Inv-loop μ-loop
-mul-numbers c = omega (arith, c .before .before .before .loop-test .taken, c .before .before .before .before .before .before .before .before .before .before .pre .0 .small)
+mul-numbers c = omega (arith, c .before .before .loop-test .taken, c .before .before .before .before .before .before .before .before .before .pre .0 .small)
 
 slice-write-numbers : tie.Need-slice-write-numbers Inv-loop μ-loop
-slice-write-numbers c = omega (arith, c .before .before .before .loop-test .taken, c .before .before .before .before .before .before .before .before .before .before .pre .0 .numbers, c .before .before .before .before .loop .inv .long)
+slice-write-numbers c = omega (arith, c .before .before .loop-test .taken, c .before .before .before .before .before .before .before .before .before .pre .0 .numbers, c .before .before .before .loop .inv .long)
 
 add-i : tie.Need-add-i Inv-loop μ-loop
-add-i c = omega (arith, c .before .before .before .loop-test .taken, c .before .before .before .before .before .before .before .before .before .before .pre .0 .small)
+add-i c = omega (arith, c .before .before .loop-test .taken, c .before .before .before .before .before .before .before .before .before .pre .0 .small)
 
 loop-less : tie.Need-loop-less Inv-loop μ-loop
-loop-less c = omega (arith, c .before .before .before .loop-test .taken)
+loop-less c = omega (arith, c .before .before .loop-test .taken)
 
 loop-again : tie.Need-loop-again Inv-loop μ-loop
 loop-again c =
-    let start = c .before .before .before .before .before .before .before .before .before .before in
-    turn (start .args .positions .now) (start .args .limit) (start .args .numbers .now) (c .before .before .before .before .loop .inv) (c .before .before .before .loop-test .taken) (start .pre .0 .numbers) (c .before .before .sorted-at2 .ensures) (c .before .exceeds .ensures) (c .next-line .ensures)
+    let start = c .before .before .before .before .before .before .before .before .before in
+    turn (start .args .positions .now) (start .args .limit) (start .args .numbers .now) (c .before .before .before .loop .inv) (c .before .before .loop-test .taken) (start .pre .0 .numbers) (c .before .sorted-at2 .ensures) (c .next-line .ensures .0) (c .next-line .ensures .1)
 
 cast-result : tie.Need-cast-result Inv-loop μ-loop
 cast-result c =
-    let start = c .before .before .before .before .before .before .before in
-    let low = line-fits (start .args .positions .now) (start .args .limit) (start .args .numbers .now) (c .before .loop .inv) in
-    let few = at-most (c .before .loop .i) low (c .before .loop .inv .up-to) (start .pre .0 .small) in
+    let start = c .before .before .before .before .before .before .before .before in
+    let low = line-fits (start .args .positions .now) (start .args .limit) (start .args .numbers .now) (c .before .before .loop .inv) in
+    let few = at-most (c .before .before .loop .i) low (c .before .before .loop .inv .up-to) (start .pre .0 .small) in
     omega (arith, few)
 
 add-result : tie.Need-add-result Inv-loop μ-loop
 add-result c =
-    let start = c .before .before .before .before .before .before .before in
-    let low = line-fits (start .args .positions .now) (start .args .limit) (start .args .numbers .now) (c .before .loop .inv) in
-    let few = at-most (c .before .loop .i) low (c .before .loop .inv .up-to) (start .pre .0 .small) in
+    let start = c .before .before .before .before .before .before .before .before in
+    let low = line-fits (start .args .positions .now) (start .args .limit) (start .args .numbers .now) (c .before .before .loop .inv) in
+    let few = at-most (c .before .before .loop .i) low (c .before .before .loop .inv .up-to) (start .pre .0 .small) in
     omega (arith, few)
 
 same-length : tie.Need-same-length Inv-loop μ-loop
-same-length c = c .before .loop .inv .long
+same-length c = c .before .before .loop .inv .long
 
 returns-2 : tie.Need-returns-2 Inv-loop μ-loop
 returns-2 c =
-    let start = c .before .before .before .before .before .before .before in
-    done (start .args .positions .now) (start .args .limit) (start .args .numbers .now) (c .before .loop .inv) refl (c .before .before .before .if1 .left) (c .loop-test .left)
+    let start = c .before .before .before .before .before .before .before .before in
+    done (start .args .positions .now) (start .args .limit) (start .args .numbers .now) (c .before .before .loop .inv) refl (c .before .before .before .before .if1 .left) (c .before .loop-test .left)
 
 pub number-spec : {M : Type 1} → statement M
 number-spec =
@@ -149,7 +146,6 @@ number-spec =
     sorted-at-requires
     loop-holds
     sorted-at-requires-2
-    exceeds-requires
     next-line-requires
     mul-numbers
     slice-write-numbers
