@@ -1,7 +1,8 @@
 // The shape of a set: how many rulings and lines it has each way.
 ghost use mathlib.Core.Path.{_≡_};
-ghost use mathlib.Core.Bool.{true, false};
+ghost use mathlib.Core.Bool.{true, false, _&&_};
 ghost use Prim.Native.Nat.{_≤_};
+ghost use lib.Dec.{leb};
 ghost use lib.ListN.{length};
 ghost use Rattle.meeting.specs.Segments.{rulingAt};
 ghost use Rattle.shapes.specs.Shapes.{inDirection, positions};
@@ -70,6 +71,16 @@ fn count_lines(
     Count { rulings: n, lines }
 }
 
+// The set minima, and two lines each way.
+fn is_table(limits: Limits, h: Count, v: Count) -> bool
+    ensures { λ r. ⌜ r ≡ leb (limits .«min_horizontal») (h .rulings) && leb (limits .«min_vertical») (v .rulings) && leb 2 (h .lines) && leb 2 (v .lines) ⌝ }
+{
+    (limits.min_horizontal as usize <= h.rulings)
+        & (limits.min_vertical as usize <= v.rulings)
+        & (2 <= h.lines)
+        & (2 <= v.lines)
+}
+
 // Is the set a table, and how many lines has it each way?
 pub struct Shape {
     pub table: bool,
@@ -113,10 +124,7 @@ pub fn shape_of(
         work,
     );
     Shape {
-        table: (limits.min_horizontal as usize <= h.rulings)
-            & (limits.min_vertical as usize <= v.rulings)
-            & (2 <= h.lines)
-            & (2 <= v.lines),
+        table: is_table(limits, h, v),
         row_lines: h.lines,
         column_lines: v.lines,
     }

@@ -19,12 +19,12 @@ grouped true true c d = refl
 grouped true false c d = refl
 grouped false b c d = refl
 
-shaped : (lim : Limits) (s : ℕ → Segment) (set : List ℕ) {h k v l : ℕ} → Counted (lim .cluster) true s set h k → Counted (lim .cluster) false s set v l
-    → Shaped lim s set (leb (lim .«min_horizontal») h && leb (lim .«min_vertical») v && leb 2 k && leb 2 l) k l
+shaped : (lim : Limits) (s : ℕ → Segment) (set : List ℕ) {h k v l : ℕ} {t : Bool} → Counted (lim .cluster) true s set h k → Counted (lim .cluster) false s set v l
+    → t ≡ leb (lim .«min_horizontal») h && leb (lim .«min_vertical») v && leb 2 k && leb 2 l → Shaped lim s set t k l
 unfolding isTable
-shaped lim s set {h} {k} {v} {l} H W =
+shaped lim s set {h} {k} {v} {l} H W e =
     record {
-      table = grouped (leb (lim .«min_horizontal») h) (leb (lim .«min_vertical») v) (leb 2 k) (leb 2 l) ∙ rw (H .rulings, W .rulings, H .lines, W .lines) refl;
+      table = e ∙ grouped (leb (lim .«min_horizontal») h) (leb (lim .«min_vertical») v) (leb 2 k) (leb 2 l) ∙ rw (H .rulings, W .rulings, H .lines, W .lines) refl;
       rows = H .lines;
       columns = W .lines;
       few = (H .few, W .few);
@@ -38,11 +38,8 @@ count-lines-requires-2 c κs =
     let start = c .before .before .before .before .before .before .before .before .before .before .before .before .before .before .before .before .before .before .before .before in
     (start .pre .0, start .pre .1, omega (arith, start .pre .2, c .before .before .before .before .before .before .before .before .before .count-lines .kept .1 .1 .1 .1 .1 .1 .0), omega (arith, start .pre .3, c .before .before .before .before .before .before .before .before .before .count-lines .kept .1 .1 .1 .1 .1 .1 .1 .0), omega (arith, start .pre .4, c .before .before .before .before .before .before .before .before .before .count-lines .kept .1 .1 .1 .1 .1 .1 .1 .1 .0))
 
-cast-t23 : tie.Need-cast-t23
-cast-t23 c = search needs
-
-cast-t25 : tie.Need-cast-t25
-cast-t25 c = search needs
+is-table-requires : tie.Need-is-table-requires
+is-table-requires c κs = search needs
 
 same-length : tie.Need-same-length
 same-length c = search needs
@@ -55,8 +52,8 @@ same-length-3 c = search needs
 
 returns : tie.Need-returns
 returns c =
-    let start = c .before .before .before .before .before .before .before .before .before .before .before .before .before .before .before .before .before .before .before .before .before .before .before .before .before .before .before .before .before .before .before .before .before in
-    shaped (start .args .limits) (rulingAt (start .args .rects .now) (start .args .directions .now) (start .args .chosen .now)) (start .args .set .now) (c .before .before .before .before .before .before .before .before .before .before .before .before .before .before .before .before .before .before .before .before .before .before .count-lines .ensures) (c .before .before .before .before .before .before .before .before .before .before .before .before .count-lines2 .ensures)
+    let start = c .before .before .before .before .before .before .before .before .before .before .before .before .before .before .before .before .before .before .before .before .before .before .before .before .before .before .before .before in
+    shaped (start .args .limits) (rulingAt (start .args .rects .now) (start .args .directions .now) (start .args .chosen .now)) (start .args .set .now) (c .before .before .before .before .before .before .before .before .before .before .before .before .before .before .before .before .before .count-lines .ensures) (c .before .before .before .before .before .before .before .count-lines2 .ensures) (c .is-table .ensures)
 
 pub shape-of-spec : {M : Type 1} → statement M
 shape-of-spec =
@@ -64,8 +61,7 @@ shape-of-spec =
     (tie.spec
     count-lines-requires
     count-lines-requires-2
-    cast-t23
-    cast-t25
+    is-table-requires
     same-length
     same-length-2
     same-length-3
