@@ -34,7 +34,7 @@ number-is c =
 known : (c : tie.Else1) → let s = c .before .before .before .before .before .before .before .before .before .before .before .before .before .before .before .before .before .before .before in Passed (s .args .xheight) (s .args .p) (s .args .rects .now) (s .args .directions .now) (lent s)
 known c =
     let s = c .before .before .before .before .before .before .before .before .before .before .before .before .before .before .before .before .before .before .before in
-    passed (s .args .xheight) (s .args .p) (s .args .rects .now) (s .args .directions .now) (lent s) (sym (number-is (c .before)) ∙ c .if1 .left)
+    passed (s .args .xheight) (s .args .p) (s .args .rects .now) (s .args .directions .now) (lent s) (omega (arith, number-is (c .before), c .if1 .left))
 
 room-for-tables-requires : tie.Need-room-for-tables-requires
 room-for-tables-requires c κs = search needs
@@ -48,7 +48,7 @@ missed-requires c κs = search needs
 returns : tie.Need-returns
 returns c =
     let s = c .before .before .before .before .before .before .before .before .before .before .before .before .before .before .before .before .before .before .before in
-    refused (s .args .xheight) (s .args .p) (s .args .rects .now) (s .args .directions .now) (lent s) (number-is (c .before)) (c .if1 .taken)
+    refused (s .args .xheight) (s .args .p) (s .args .rects .now) (s .args .directions .now) (lent s) (number-is (c .before)) (λ z. omega (arith, z, c .if1 .taken))
 
 begin-requires : tie.Need-begin-requires
 begin-requires c κs = let P = known (c .before) in record { room = P .chosen; small = omega (arith, P .few) }
