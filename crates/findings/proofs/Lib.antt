@@ -10,3 +10,4 @@ pub mod Given
 pub mod Free
 pub mod FirstKeys
 pub mod Runs
+pub mod Writes

@@ -1,5 +1,5 @@
 -- Document 01's findings: one for each table, one for the free rules if there are enough, one for each fold, one for each grid.
-use mathlib.Core.Bool.{Bool, not, cond}
+use mathlib.Core.Bool.{Bool, true, not, cond, _&&_}
 use mathlib.Core.List.{List, [], _∷_, _++_, map}
 use Prim.Native.Nat.{ℕ, max}
 use lib.Dec.{eqb, leb}
@@ -17,6 +17,7 @@ use Rattle.layout.specs.ToPage.{rectToPage}
 use Rattle.params.specs.declared.settings.RulingsParams.{RulingsParams}
 use Rattle.params.specs.declared.settings.FusionParams.{FusionParams}
 use Rattle.evidence.specs.declared.finding.Finding.{Finding}
+use Rattle.evidence.specs.Finding.{finiteFinding}
 use Rattle.evidence.specs.Kinds.{inchesOf, isFold, tableFinding, freeFinding, gridFinding, foldFinding}
 
 -- What findings are scored by: the way back to the page, the settings and the caps.
@@ -108,8 +109,8 @@ abbrev pub freeCount : RulingsParams → List ℕ → ℕ
 freeCount p places = one (leb (p .«min_free_rules») (length places))
 
 -- The finding of the free rules, if there is one.
-abbrev pub freeFindings : Scan → Rulings → List ℕ → List ℕ → List Finding
-freeFindings s r printed free = let places = freePlaces printed free in map (λ k. freeOf s r places) (below (freeCount (s .settings) places))
+abbrev pub freeFindings : Scan → Rulings → List ℕ → List Finding
+freeFindings s r places = map (λ k. freeOf s r places) (below (freeCount (s .settings) places))
 
 -- ---- folds
 
@@ -125,7 +126,7 @@ foldAt s dpi r k =
     foldFinding (s .settings) (s .caps) (onPage s (rectAt (r .rects) k)) (not (lying (r .directions) k)) (foldInches dpi (r .rects) (r .directions) k) (getD (r .contrasts) k nan)
 
 abbrev pub foldFindings : Scan → ℕ → Rulings → List ℕ → List Finding
-foldFindings s dpi r faint = map (foldAt s dpi r) (folds (s .settings) dpi (r .rects) (r .directions) faint)
+foldFindings s dpi r places = map (foldAt s dpi r) places
 
 -- ---- grids
 
@@ -143,6 +144,16 @@ gridFindings s b = map (λ n. gridOf s (b .rects) (b .marks) (b .coverages) (b .
 
 -- ---- all
 
+-- The findings of tables, of the free rules at some places, and of the folds at some places.
+abbrev pub firstFindings : Scan → ℕ → Tables → Rulings → List ℕ → List ℕ → List Finding
+firstFindings s dpi t r free fs = tableFindings s t ++ freeFindings s r free ++ foldFindings s dpi r fs
+
 -- The findings in the order in which they are made: tables, free rules, folds, grids.
 abbrev pub made : Scan → ℕ → Rulings → List ℕ → List ℕ → Tables → List ℕ → Boxes → List Finding
-made s dpi r printed faint t free b = (tableFindings s t ++ freeFindings s r printed free ++ foldFindings s dpi r faint) ++ gridFindings s b
+made s dpi r printed faint t free b =
+    firstFindings s dpi t r (freePlaces printed free) (folds (s .settings) dpi (r .rects) (r .directions) faint) ++ gridFindings s b
+
+-- Question 15: every evidence number of every finding is finite.
+abbrev pub everyFinite : List Finding → Bool
+everyFinite [] = true
+everyFinite (f ∷ fs) = finiteFinding f && everyFinite fs

@@ -1,6 +1,7 @@
 -- What the functions of `findings` ask and leave; none of it is needed to read what a page's findings are.
 use mathlib.Core.Path.{_≡_}
-use mathlib.Core.List.{List}
+use mathlib.Core.Bool.{Bool}
+use mathlib.Core.List.{List, map}
 use Prim.Native.Nat.{ℕ, _*_, _+_, _^_, _≤_, _<_}
 use lib.IntN.{ℤ}
 use lib.Ieee.{Float}
@@ -14,8 +15,12 @@ use Rattle.rects.specs.Rects.{count, rectAt, Inside, AllInside}
 use Rattle.layout.specs.declared.sides.Sides.{Sides}
 use Rattle.layout.specs.Tables.{Sheared}
 use Rattle.params.specs.declared.settings.RulingsParams.{RulingsParams}
-use Rattle.findings.specs.Made.{freeCount}
-use Rattle.findings.specs.Keys.{firstKeys, gridKeys}
+use Rattle.evidence.specs.declared.finding.Finding.{Finding}
+use Rattle.evidence.specs.Finding.{rowOf}
+use Rattle.finding_lists.specs.Columns.{Columns, AllWritten}
+use Rattle.finding_lists.specs.Steps.{Roomy}
+use Rattle.findings.specs.Made.{freeCount, everyFinite}
+use Rattle.findings.specs.Keys.{firstKeys, gridKeys, inOrder}
 
 -- The way back to the page is known: the tables pass their questions, and a picture that has a rectangle has a page.
 pub record Mapping (sides : Sides) (shear shear-x : List ℤ) : Type 0 where
@@ -98,3 +103,17 @@ pub record RankRoom (p : RulingsParams) (bounds places folds numbers keys grid-k
 pub record AllRanked (sides : Sides) (shear shear-x : List ℤ) (p : RulingsParams) (bounds rects places folds boxes : List ℕ) (set : ℕ → List ℕ) (numbers ranks grid-ranks : List ℕ) (r : ℕ) : Type 0 where
   pub rules : r ≡ freeCount p places
   pub ranked : Ranked (firstKeys sides shear shear-x p bounds rects places folds) (gridKeys sides shear shear-x boxes set numbers) ranks grid-ranks
+
+-- The ranks of both runs are given, and the lists have room for all findings.
+pub record WriteRoom (p : RulingsParams) (folds numbers ka kb ranks grid-ranks : List ℕ) (tables rules : ℕ) (l : Columns) : Type 0 where
+  pub ranked : Ranked ka kb ranks grid-ranks
+  pub first-long : length ka ≡ tables + rules + length folds
+  pub second-long : length kb ≡ length numbers
+  pub ranks-long : length ka ≤ length ranks
+  pub grid-ranks-long : length kb ≤ length grid-ranks
+  pub room : Roomy (length ka + length kb) l
+
+-- What writing all findings leaves: the lists hold them in order, and whether each is finite.
+pub record AllFound (fs : List Finding) (l l′ : Columns) (finite : Bool) : Type 0 where
+  pub lists : AllWritten (map rowOf (inOrder fs)) l l′
+  pub all-finite : finite ≡ everyFinite fs

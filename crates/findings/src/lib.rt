@@ -7,3 +7,4 @@ pub mod page;
 pub mod places;
 pub mod ranking;
 pub mod table_findings;
+pub mod writing;
