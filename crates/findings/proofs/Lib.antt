@@ -11,3 +11,4 @@ pub mod Free
 pub mod FirstKeys
 pub mod Runs
 pub mod Writes
+pub mod Whole

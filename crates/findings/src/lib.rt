@@ -1,4 +1,5 @@
 // The findings of a page, from what was found on it: the keys and the findings of each kind.
+pub mod core;
 pub mod first;
 pub mod fold_findings;
 pub mod free_findings;
