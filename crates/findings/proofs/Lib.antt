@@ -11,4 +11,5 @@ pub mod Free
 pub mod FirstKeys
 pub mod Runs
 pub mod Writes
+pub mod Demand
 pub mod Whole

@@ -52,7 +52,7 @@ module _ (n : ℕ) (f : ℕ → Finding) where
   item-stands : (k : ℕ) → k < n → Stands items k (f k)
   item-stands k h = (rw (length-values f n) h, getD-values f n k (f k) h)
 
-  stands-item : (m : ℕ) (g : Finding) → Stands items m g → (m < n) × (g ≡ f m)
+  pub stands-item : (m : ℕ) (g : Finding) → Stands items m g → (m < n) × (g ≡ f m)
   stands-item m g s = let h : m < n = rw (length-values f n) at (s .0) in (h, sym (s .1) ∙ getD-values f n m g h)
 
   pub items-without : (kind other : ℕ) → ((k : ℕ) → k < n → kindNumber (f k .kind) ≡ kind) → (kind ≡ other → ⊥) → Without other items

@@ -1,8 +1,8 @@
 -- A page's findings: what the two runs need is given, and the parts that are lent on are the places of the free rulings and of the folds.
 use mathlib.Core.Path.{_≡_, sym, ap, ap₂, subst, _∙_}
 use mathlib.Core.Bool.{Bool}
-use mathlib.Core.List.{List, _++_, map}
-use Prim.Native.Nat.{ℕ, _+_, _≤_, _<_, _^_}
+use mathlib.Core.List.{List, _++_}
+use Prim.Native.Nat.{ℕ, _+_, _≤_, _<_}
 use native.Mathlib.Omega.{arith}
 use lib.IntN.{ℤ}
 use lib.Ieee.{Float}
@@ -13,6 +13,7 @@ use Rattle.lists.proofs.Keep.{at-in, in-at, kept-in, getD-map}
 use Rattle.lists.proofs.Sizes.{keep-size-le}
 use Rattle.rects.specs.Rects.{count}
 use Rattle.layout.specs.declared.sides.Sides.{Sides}
+use Rattle.layout.specs.Tables.{Sheared}
 use Rattle.params.specs.declared.settings.RulingsParams.{RulingsParams}
 use Rattle.evidence.specs.Kinds.{isFold}
 use Rattle.finding_lists.specs.Columns.{Columns}
@@ -22,6 +23,7 @@ use Rattle.findings.specs.Made.{Scan, Rulings, Tables, Boxes, foldInches
 use Rattle.findings.specs.Steps.{NumbersGiven, AllGiven, RectsGiven, AllRanked, WriteRoom, ArrangeRoom, Arranged, Front, PageFound}
 use Rattle.findings.proofs.Runs.{first-long, second-long}
 use Rattle.findings.proofs.Writes.{first-keys-are, grid-keys-are}
+use Rattle.findings.proofs.Demand.{findings-paired}
 
 -- ---- what is given of some places is given of places among them
 
@@ -129,7 +131,7 @@ module _ (s : Scan) (dpi : ℕ) (r : Rulings) (printed faint : List ℕ) (t : Ta
         subst (λ (x : List ℕ). ArrangeRoom (s .settings) (t .bounds) x (take m fs′) (b .grids) keys grid-keys order grid-order ranks grid-ranks l) (sym free-part)
         (subst (λ (y : List ℕ). ArrangeRoom (s .settings) (t .bounds) (freePlaces printed free) y (b .grids) keys grid-keys order grid-order ranks grid-ranks l) (sym fold-part) R)
 
-    pub page-found : {l l′ : Columns} {n : ℕ} {finite : Bool} → Arranged s dpi t r (take (length free) places′) (take m fs′) b l l′ n finite → PageFound s dpi r printed faint t free b l l′ n finite
-    page-found {l} {l′} {n} {finite} A =
+    pub page-found : {l l′ : Columns} {n : ℕ} {finite : Bool} → Sheared (s .sides) (s .shear) (s .shear-x) → Arranged s dpi t r (take (length free) places′) (take m fs′) b l l′ n finite → PageFound s dpi r printed faint t free b l l′ n finite
+    page-found {l} {l′} {n} {finite} S A =
         let C = subst (λ (y : List ℕ). Arranged s dpi t r (freePlaces printed free) y b l l′ n finite) fold-part (subst (λ (x : List ℕ). Arranged s dpi t r x (take m fs′) b l l′ n finite) free-part A) in
-        record { found = C .found; number = C .number }
+        record { found = C .found; number = C .number; paired = findings-paired s dpi r printed faint t free b S }

@@ -5,11 +5,9 @@ use mathlib.Core.Bool.{Bool, true, false, _&&_}
 use mathlib.Core.List.{List, [], _∷_, _++_, map}
 use Prim.Native.Nat.{ℕ, zero, suc, _+_, _≤_}
 use native.Mathlib.Omega.{arith}
-use lib.IntN.{ℤ}
 use lib.ListN.{length, getD, take, drop, length-append, length-map}
 use Rattle.lists.specs.Lists.{below, everyBelow}
-use Rattle.lists.proofs.Every.{every-more}
-use Rattle.lists.proofs.Keep.{map-append, map-map, by-place, length-values, values-more}
+use Rattle.lists.proofs.Keep.{map-append, map-map, by-place, length-values}
 use Rattle.rects.specs.Rects.{count}
 use Rattle.ranks.specs.Ranks.{Ranked}
 use Rattle.params.specs.declared.settings.RulingsParams.{RulingsParams}
@@ -20,7 +18,7 @@ use Rattle.evidence.specs.Kinds.{tableFinding, freeFinding, gridFinding, foldFi
 use Rattle.finding_lists.specs.Columns.{Columns}
 use Rattle.finding_lists.specs.Steps.{Stored, Wrote, RanksGiven, Roomy}
 use Rattle.finding_lists.proofs.Storing.{still-roomy}
-use Rattle.findings.specs.Keys.{keyOf, tableKey, freeKey, foldKey, freeKeys, gridKey, firstKeys, gridKeys}
+use Rattle.findings.specs.Keys.{keyOf, tableKey, foldKey, freeKeys, firstKeys, gridKeys}
 use Rattle.findings.specs.Made.{Scan, Rulings, Tables, Boxes, greatestOf, tableAt, freeOf, foldAt, gridOf, freeCount, tableFindings, freeFindings, foldFindings, gridFindings, firstFindings, everyFinite}
 use Rattle.findings.specs.Steps.{WriteRoom, AllFound}
 use Rattle.findings.proofs.All.{all-in-order, stored-on, first-ranks, second-ranks}
@@ -49,7 +47,7 @@ module _ {p : RulingsParams} {folds numbers ka kb ra rb : List ℕ} {tables rule
 -- ---- the keys of the findings
 
 -- what stands at each entry of a list
-at-entries : {A : Type 0} (f : ℕ → A) (xs : List ℕ) → map (λ k. f (getD xs k 0)) (below (length xs)) ≡ map f xs
+pub at-entries : {A : Type 0} (f : ℕ → A) (xs : List ℕ) → map (λ k. f (getD xs k 0)) (below (length xs)) ≡ map f xs
 at-entries f xs = sym (map-map f (λ k. getD xs k 0) (below (length xs))) ∙ ap (map f) (by-place xs 0)
 
 module _ (s : Scan) (t : Tables) (r : Rulings) (b : Boxes) (dpi : ℕ) where

@@ -21,6 +21,7 @@ use Rattle.finding_lists.specs.Columns.{Columns, AllWritten}
 use Rattle.finding_lists.specs.Steps.{Roomy}
 use Rattle.findings.specs.Made.{Scan, Rulings, Tables, Boxes, freePlaces, freeCount, folds, firstFindings, gridFindings, made, everyFinite}
 use Rattle.findings.specs.Keys.{firstKeys, gridKeys, inOrder}
+use Rattle.findings.specs.Pairing.{FindingsPaired}
 
 -- The way back to the page is known: the tables pass their questions, and a picture that has a rectangle has a page.
 pub record Mapping (sides : Sides) (shear shear-x : List ℤ) : Type 0 where
@@ -134,7 +135,8 @@ pub record FindRoom (p : RulingsParams) (dpi : ℕ) (rects directions printed fa
   pub folds-long : length faint ≤ length fs
   pub both : ArrangeRoom p bounds (freePlaces printed free) (folds p dpi rects directions faint) numbers keys grid-keys order grid-order ranks grid-ranks l
 
--- What the core leaves of a page: its findings in order, how many there are, and whether each is finite.
+-- What the core leaves of a page: its findings in order, how many there are, and whether each is finite; each is paired with what it is made from.
 pub record PageFound (s : Scan) (dpi : ℕ) (r : Rulings) (printed faint : List ℕ) (t : Tables) (free : List ℕ) (b : Boxes) (l l′ : Columns) (n : ℕ) (finite : Bool) : Type 0 where
   pub found : AllFound (made s dpi r printed faint t free b) l l′ finite
   pub number : n ≡ length (made s dpi r printed faint t free b)
+  pub paired : FindingsPaired s dpi r printed faint t free b

@@ -1,5 +1,4 @@
 // The first run of findings: tables, free rules and folds.
-ghost use mathlib.Core.Path.{_≡_};
 ghost use Prim.Native.Nat.{_+_, _≤_};
 ghost use lib.ListN.{length};
 ghost use Rattle.rects.specs.Rects.{count, AllInside};

@@ -1,7 +1,6 @@
 // The ranks of all findings in their common order.
 ghost use Prim.Native.Nat.{_+_, _≤_};
-ghost use lib.ListN.{length};
-ghost use Rattle.rects.specs.Rects.{count, AllInside};
+ghost use Rattle.rects.specs.Rects.{AllInside};
 ghost use Rattle.sets.specs.Listing.{membersOf};
 ghost use Rattle.findings.specs.Steps.{Mapping, RectsGiven, GridRectsGiven, RankRoom, AllRanked};
 use crate::first;

@@ -2,7 +2,6 @@
 ghost use mathlib.Core.Path.{_≡_};
 ghost use mathlib.Core.List.{_++_, map};
 ghost use Prim.Native.Nat.{_≤_};
-ghost use lib.ListN.{length};
 ghost use Rattle.rects.specs.Rects.{count};
 ghost use Rattle.sets.specs.Listing.{membersOf};
 ghost use Rattle.findings.specs.Keys.{firstKeys, gridKeys};

@@ -56,7 +56,7 @@ same-length-9 : tie.Need-same-length-9
 same-length-9 c = search needs
 
 returns : tie.Need-returns
-returns c = let s = c .before .before .before .before .before .before .before .before .before .before .before .before .before .before .before .before .before .before .before .before .before .before .before .before .before .before .before .before .before .before .before .before .before .before .before .before .before .before .before .before .before .before .before .before .before .before .before .before .before .before .before .before .before .before .before .before .before .before .before .before in let a = s .args in page-found (record { sides = a .sides; shear = a .shear .now; shear-x = a .shear-x .now; settings = a .p; caps = a .f }) (a .dpi) (record { rects = a .rects .now; directions = a .directions .now; contrasts = a .contrasts .now }) (a .printed .now) (a .faint .now) (record { bounds = a .bounds .now; rows = a .rows .now; columns = a .columns .now; rulings = a .rulings .now; shares = a .shares .now }) (a .free .now) (record { rects = a .boxes .now; marks = a .marks .now; coverages = a .coverages .now; set = membersOf (a .members .now) (a .ends .now) (a .sets); grids = a .numbers .now }) (a .places .now) (c .before .before .before .before .before .before .before .before .before .before .before .before .before .before .before .before .before .before .before .before .before .before .before .before .before .before .before .before .before .before .before .before .list .ensures) (c .before .before .before .before .before .before .before .before .before .before .before .before .before .before .before .before .before .before .before .before .before .before .before .before .before .before .before .before .choose .ensures) (c .before .before .before .before .before .before .before .before .before .before .before .before .before .before .arrange .ensures)
+returns c = let s = c .before .before .before .before .before .before .before .before .before .before .before .before .before .before .before .before .before .before .before .before .before .before .before .before .before .before .before .before .before .before .before .before .before .before .before .before .before .before .before .before .before .before .before .before .before .before .before .before .before .before .before .before .before .before .before .before .before .before .before .before in let a = s .args in page-found (record { sides = a .sides; shear = a .shear .now; shear-x = a .shear-x .now; settings = a .p; caps = a .f }) (a .dpi) (record { rects = a .rects .now; directions = a .directions .now; contrasts = a .contrasts .now }) (a .printed .now) (a .faint .now) (record { bounds = a .bounds .now; rows = a .rows .now; columns = a .columns .now; rulings = a .rulings .now; shares = a .shares .now }) (a .free .now) (record { rects = a .boxes .now; marks = a .marks .now; coverages = a .coverages .now; set = membersOf (a .members .now) (a .ends .now) (a .sets); grids = a .numbers .now }) (a .places .now) (c .before .before .before .before .before .before .before .before .before .before .before .before .before .before .before .before .before .before .before .before .before .before .before .before .before .before .before .before .before .before .before .before .list .ensures) (c .before .before .before .before .before .before .before .before .before .before .before .before .before .before .before .before .before .before .before .before .before .before .before .before .before .before .before .before .choose .ensures) (s .pre .0 .0 .sheared) (c .before .before .before .before .before .before .before .before .before .before .before .before .before .before .arrange .ensures)
 
 pub find-spec : {M : Type 1} → statement M
 find-spec =

@@ -2,7 +2,6 @@
 use mathlib.Core.Path.{_∙_}
 use native.Mathlib.Omega.{arith}
 use Rattle.findings.proofs.FirstKeys.{free-keys-long, first-keyed}
-use borrow.Author.Needs.{needs}
 use Rattle.findings.proofs.first.keys.Statement.{statement}
 use Rattle.findings.proofs.first.keys.Tie as tie
 

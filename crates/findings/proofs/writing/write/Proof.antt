@@ -1,6 +1,5 @@
 -- `writing::write` meets its contract: each kind finds the room that the ones before it left, and `all-found` puts the four together.
 use mathlib.Core.Path.{_∙_}
-use Prim.Native.Nat.{ℕ, _+_}
 use native.Mathlib.Omega.{arith}
 use lib.ListN.{getD}
 use Rattle.sets.specs.Listing.{membersOf}
