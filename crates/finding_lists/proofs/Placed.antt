@@ -127,7 +127,7 @@ module _ {A : Type 0} (d : A) where
       less : {m n : ℕ} → suc m ≡ suc n → m ≡ n
       less e = omega arith
 
-  concat-long : (w : ℕ) (cs : List (List A)) → Wide w cs → length (concat cs) ≡ w * length cs
+  pub concat-long : (w : ℕ) (cs : List (List A)) → Wide w cs → length (concat cs) ≡ w * length cs
   concat-long w [] W = omega arith
   concat-long w (c ∷ cs) W =
       let a = length-append c (concat cs) in
@@ -136,7 +136,7 @@ module _ {A : Type 0} (d : A) where
       let m = mul-suc w (length cs) in
       omega arith
 
-  concat-at : (w : ℕ) (cs : List (List A)) (j r : ℕ) → Wide w cs → j < length cs → r < w → getD (concat cs) (w * j + r) d ≡ getD (getD cs j []) r d
+  pub concat-at : (w : ℕ) (cs : List (List A)) (j r : ℕ) → Wide w cs → j < length cs → r < w → getD (concat cs) (w * j + r) d ≡ getD (getD cs j []) r d
   concat-at w [] j r W h q = absurd (not-suc-le-zero h)
   concat-at w (c ∷ cs) zero r W h q =
       let e : w * 0 + r ≡ r = omega arith in
