@@ -3,8 +3,10 @@
 // before a call. include/lanegravel.h declares them for C.
 mod box_grids_call;
 mod boxes_call;
+mod finding_at_call;
 mod floats;
 mod level_gray_call;
+mod log_odds_call;
 mod members_of_call;
 mod rect_to_page_call;
 mod segments_call;
