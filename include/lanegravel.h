@@ -293,6 +293,54 @@ struct lanegravel_box_grids_answer lanegravel_box_grids(
     uint32_t *parents, size_t parents_count, uint32_t *work, size_t work_count,
     uint64_t *keys, size_t keys_count);
 
+/* The log odds of a finding: prior + (0.0 + s), where s is the sum of the llrs as by
+ * lanegravel_pairwise_sum, clamped: below -group_cap it is -group_cap, above group_cap it is
+ * group_cap. Any values have their answer. */
+double lanegravel_log_odds(double prior, const double *llrs, size_t llrs_count, double group_cap);
+
+/* A finding: found is 1, and beside it the number of its kind, its rectangle on the page, three whole
+ * facts, its log odds and two evidences, each a value, the threshold that it is held against and its
+ * llr. Where there is none, all is 0. What a kind doesn't have is 0 too:
+ *   kind            a, b, c                                       second_value     length
+ *   16 table        rows, columns, rulings                        joined share     -
+ *   17 free rules   horizontal, vertical, the longest's length    mean contrast    -
+ *   18 grid         boxes, ticked, -                              mean edge        -
+ *   19 fold         direction (0 horizontal, 1 vertical), -, -    -                inches */
+struct lanegravel_finding_at_answer {
+    uint32_t found;
+    uint32_t kind;
+    uint32_t x0;
+    uint32_t y0;
+    uint32_t x1;
+    uint32_t y1;
+    uint32_t a;
+    uint32_t b;
+    uint32_t c;
+    double log_odds;
+    double first_value;
+    double first_threshold;
+    double first_llr;
+    double second_value;
+    double second_threshold;
+    double second_llr;
+    double length;
+};
+
+/* Finding i of `count` in the lists of findings, `rects` with four numbers for each and every other
+ * list with one entry. There is none where i is at or past the count, where a list has no entry i,
+ * where the kind is none of the four, or where a fold's direction is neither 0 nor 1. */
+struct lanegravel_finding_at_answer lanegravel_finding_at(
+    const uint32_t *rects, size_t rects_count, const uint32_t *kinds, size_t kinds_count,
+    const uint32_t *a, size_t a_count, const uint32_t *b, size_t b_count,
+    const uint32_t *c, size_t c_count, const double *log_odds, size_t log_odds_count,
+    const double *first_values, size_t first_values_count,
+    const double *first_thresholds, size_t first_thresholds_count,
+    const double *first_llrs, size_t first_llrs_count,
+    const double *second_values, size_t second_values_count,
+    const double *second_thresholds, size_t second_thresholds_count,
+    const double *second_llrs, size_t second_llrs_count,
+    const double *lengths, size_t lengths_count, size_t count, size_t i);
+
 #ifdef __cplusplus
 }
 #endif

@@ -6,6 +6,7 @@
 //! lists that are written overlap nothing, since Rust lends each of them once.
 
 pub mod boxes;
+pub mod findings;
 pub mod floats;
 pub mod grids;
 pub mod layout;

@@ -31,5 +31,6 @@ void test_segments(void);
 void test_tables(void);
 void test_boxes(void);
 void test_box_grids(void);
+void test_findings(void);
 
 #endif

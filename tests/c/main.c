@@ -40,6 +40,7 @@ int main(void) {
     test_tables();
     test_boxes();
     test_box_grids();
+    test_findings();
     printf("%d checks, %d failed\n", checks, failures);
     return failures != 0;
 }
