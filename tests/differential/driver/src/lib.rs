@@ -2,6 +2,7 @@
 
 pub mod aligned;
 pub mod boxes;
+pub mod findings;
 pub mod floats;
 pub mod flood;
 pub mod grids;

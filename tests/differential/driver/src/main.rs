@@ -10,7 +10,9 @@ use std::process::ExitCode;
 
 use differential::random::Random;
 use differential::tally::Tally;
-use differential::{boxes, floats, grids, grouping, layout, params, replay, segments, tables};
+use differential::{
+    boxes, findings, floats, grids, grouping, layout, params, replay, segments, tables,
+};
 
 /// One call of the library, with the number of random cases that it is tried on.
 struct Comparison {
@@ -119,6 +121,16 @@ const COMPARISONS: &[Comparison] = &[
         name: "box_grids on forms",
         count: 300,
         run: grids::forms,
+    },
+    Comparison {
+        name: "log_odds",
+        count: 200_000,
+        run: findings::log_odds,
+    },
+    Comparison {
+        name: "finding_at",
+        count: 200_000,
+        run: findings::finding_at,
     },
 ];
 
