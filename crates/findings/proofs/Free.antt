@@ -1,5 +1,5 @@
 -- The free rules: how many findings they make, and what is counted of them.
-use mathlib.Core.Path.{_≡_, refl, sym, ap, subst}
+use mathlib.Core.Path.{_≡_, refl, sym, ap, subst, _∙_}
 use mathlib.Core.Bool.{Bool, true, false, not, cond}
 use mathlib.Core.List.{List, [], _∷_, map}
 use Prim.Native.Nat.{ℕ, suc, _+_, _-_, _≤_, _<_}
@@ -7,7 +7,8 @@ use native.Mathlib.Omega.{arith}
 use lib.IntN.{ℤ}
 use lib.Ieee.{Float}
 use lib.ListN.{length, getD, set}
-use borrow.Author.Tests.{le-leb, lt-leb}
+use lib.Dec.{leb}
+use borrow.Author.Tests.{le-leb, lt-leb, leb-true, leb-false, not-true, not-false}
 use Rattle.lists.specs.Lists.{one, below, everyBelow, keep}
 use Rattle.rects.specs.declared.Rect.{Rect}
 use Rattle.rects.specs.Around.{around}
@@ -23,6 +24,13 @@ use Rattle.finding_lists.proofs.Writing.{writing-none, writing-more}
 use Rattle.findings.specs.Keys.{freeKey, freeKeys}
 use Rattle.findings.specs.Made.{Scan, Rulings, onPage, meanAt, greatestOf, horizontals, verticals, longest, freeOf, freeCount}
 use Rattle.findings.specs.Steps.{KeysStored}
+
+-- what the answer of the test says
+pub short-of : (m n : ℕ) {r : Bool} → r ≡ leb m n → not r ≡ true → n < m
+short-of m n {r} e h = leb-false m n (sym e ∙ not-true r h)
+
+pub reached : (m n : ℕ) {r : Bool} → r ≡ leb m n → not r ≡ false → m ≤ n
+reached m n {r} e h = leb-true m n (sym e ∙ not-false r h)
 
 module _ (p : RulingsParams) (places : List ℕ) where
   pub too-few : length places < p .«min_free_rules» → freeCount p places ≡ 0

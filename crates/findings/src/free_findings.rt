@@ -2,6 +2,7 @@
 ghost use mathlib.Core.Path.{_≡_};
 ghost use mathlib.Core.List.{map};
 ghost use Prim.Native.Nat.{_+_, _≤_, _<_};
+ghost use lib.Dec.{leb};
 ghost use lib.ListN.{length};
 ghost use Rattle.lists.specs.Lists.{written};
 ghost use Rattle.finding_lists.specs.Steps.{Wrote, RanksGiven};
@@ -28,6 +29,13 @@ pub fn list(printed: &[u32], free: &[u32], out: &mut [u32])
     }
 }
 
+// Are so many rulings enough for a finding?
+fn enough(p: RulingsParams, count: usize) -> bool
+    ensures { λ r. ⌜ r ≡ leb (p .«min_free_rules») count ⌝ }
+{
+    p.min_free_rules as usize <= count
+}
+
 // The key of the free rules' finding, stored at place `at` of the list if there is one, and how many there are.
 pub fn keys(
     sides: Sides,
@@ -43,7 +51,7 @@ pub fn keys(
         × (at + freeCount p (now places) ≤ length (now keys)) ⌝ }
     ensures { λ n. ⌜ KeysStored (freeKeys sides (now (shear .entry)) (now («shear_x» .entry)) p (now (rects .entry)) (now (places .entry))) at (now (keys .entry)) (now (keys .exit)) n ⌝ }
 {
-    if places.len() < p.min_free_rules as usize {
+    if !enough(p, places.len()) {
         return 0;
     }
     keys[at] = page::rect_key(sides, shear, shear_x, rects::bounding(rects, places), 17);
@@ -111,7 +119,7 @@ pub fn write(
         (record { rects = now (page .entry); facts = map now (now (facts .entry)); scores = map now (now (scores .entry)) })
         (record { rects = now (page .exit); facts = map now (now (facts .exit)); scores = map now (now (scores .exit)) }) r ⌝ }
 {
-    if places.len() < p.min_free_rules as usize {
+    if !enough(p, places.len()) {
         return true;
     }
     let found = finding(

@@ -6,7 +6,8 @@ ghost use lib.Dec.{eqb};
 ghost use lib.ListN.{length, getD};
 ghost use Rattle.lists.specs.Lists.{keep};
 ghost use Rattle.rects.specs.Rects.{Inside};
-ghost use Rattle.math.specs.Sum.{PlacesIn};
+ghost use lib.Ieee.{binary64, div};
+ghost use Rattle.math.specs.Sum.{PlacesIn, whole};
 ghost use Rattle.findings.specs.Made.{lengthOf, lengthAt, greatestOf, meanAt};
 ghost use Rattle.findings.specs.Steps.{PlacesGiven, NumbersGiven};
 use rects::Rect;
@@ -51,10 +52,18 @@ pub fn longest(rects: &[u32], directions: &[u32], places: &[u32]) -> u32
     longest
 }
 
+fn over(sum: f64, n: usize) -> f64
+    requires { ⌜ n ≤ 16384 ⌝ }
+    ensures { λ r. ⌜ r ≡ div binary64 sum (whole n) ⌝ }
+{
+    sum / (n as f64)
+}
+
 // The mean of the values at some places.
 pub fn mean(values: &[f64], places: &[u32]) -> f64
     requires { ⌜ PlacesIn (now values) (now places) × (length (now places) ≤ 16384) ⌝ }
     ensures { λ r. ⌜ r ≡ meanAt (now (values .entry)) (now (places .entry)) ⌝ }
 {
-    math::sum_at::pairwise_sum_at(values, places) / (places.len() as f64)
+    let n = places.len();
+    over(math::sum_at::pairwise_sum_at(values, places), n)
 }

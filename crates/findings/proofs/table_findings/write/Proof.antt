@@ -21,7 +21,7 @@ loop-holds : tie.Need-loop-holds Inv-loop μ-loop
 loop-holds c = let s = c .before .before .before .before .before .before .before in let a = s .args in writing-none (tableAt (record { sides = a .sides; shear = a .shear .now; shear-x = a .shear-x .now; settings = a .p; caps = a .f }) (record { bounds = a .bounds .now; rows = a .rows .now; columns = a .columns .now; rulings = a .rulings .now; shares = a .shares .now })) (s .pre .1)
 
 finding-requires : tie.Need-finding-requires Inv-loop μ-loop
-finding-requires c κs = let s = c .before .before .before .before .before .before .before .before .before in (s .pre .0 .0, s .pre .0 .1, c .loop-test .taken)
+finding-requires c κs = let s = c .before .before .before .before .before .before .before .before .before in (s .pre .0 .0, s .pre .0 .1, omega (arith, c .loop-test .taken))
 
 add-put-ranked : tie.Need-add-put-ranked Inv-loop μ-loop
 add-put-ranked c = let s = c .before .before .before .before .before .before .before .before .before .before in record { fits = omega (arith, s .pre .1 .long, c .before .loop-test .taken, s .good .1 .1 .1 .1 .1 .1 .1 .1 .1 .1 .0 .1) }
