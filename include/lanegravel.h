@@ -45,7 +45,8 @@ struct lanegravel_members_of_answer {
 };
 
 /* The members of one set of a listing of `count` sets, as a part of the member list. A set number
- * at or past the count, bounds outside the lists, or a start past its end, give the empty part. */
+ * at or past the count, bounds outside the lists, or a start past its end, give the empty part. The
+ * part lies in the member list and starts where the set before it ends; the empty part starts at 0. */
 struct lanegravel_members_of_answer lanegravel_members_of(
     const uint32_t *members, size_t members_count, const uint32_t *ends, size_t ends_count,
     size_t count, size_t set);

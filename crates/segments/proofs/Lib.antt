@@ -7,3 +7,4 @@ pub mod Order
 pub mod Demand
 pub mod Core
 pub mod Call
+pub mod PrintedFaint

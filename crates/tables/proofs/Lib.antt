@@ -3,3 +3,4 @@ pub mod Demand
 pub mod Filling
 pub mod Passing
 pub mod Accepting
+pub mod Few
