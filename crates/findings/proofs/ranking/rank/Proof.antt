@@ -33,22 +33,22 @@ rank-requires : tie.Need-rank-requires
 rank-requires c κs = let s = c .before .before .before .before .before .before .before .before .before .before .before .before .before .before .before .before .before .before .before .before .before .before .before .before .before .before .before .before in room (s .args .sides) (s .args .shear .now) (s .args .shear-x .now) (s .args .p) (s .args .bounds .now) (s .args .rects .now) (s .args .places .now) (s .args .folds .now) (s .args .boxes .now) (membersOf (s .args .members .now) (s .args .ends .now) (s .args .sets)) (s .args .numbers .now) (s .pre .1) (c .before .before .before .before .before .before .before .before .before .before .before .before .keys .ensures) _ (c .before .before .before .before .before .before .before .before .before .before .before .before .keys .kept .1 .1 .1 .1 .1 .1 .1 .1 .0) (c .before .before .before .before .before .before .before .before .keys3 .kept .1 .1 .1 .1 .1 .1 .1 .1 .1 .0)
 
 same-length : tie.Need-same-length
-same-length c = search needs
+same-length c = c .before .before .before .before .before .before .before .before .before .before .before .before .before .before .before .before .before .before .before .before .before .keys .kept .1 .1 .1 .1 .1 .1 .1 .1 .0
 
 same-length-2 : tie.Need-same-length-2
-same-length-2 c = search needs
+same-length-2 c = c .before .before .before .before .before .before .before .before .before .before .before .before .before .before .before .before .before .keys3 .kept .1 .1 .1 .1 .1 .1 .1 .1 .1 .0
 
 same-length-3 : tie.Need-same-length-3
-same-length-3 c = search needs
+same-length-3 c = c .before .before .before .before .before .before .before .before .rank .kept .1 .1 .0
 
 same-length-4 : tie.Need-same-length-4
-same-length-4 c = search needs
+same-length-4 c = c .before .before .before .before .before .before .before .before .rank .kept .1 .1 .1 .0
 
 same-length-5 : tie.Need-same-length-5
-same-length-5 c = search needs
+same-length-5 c = c .before .before .before .before .before .before .before .before .rank .kept .1 .1 .1 .1 .0
 
 same-length-6 : tie.Need-same-length-6
-same-length-6 c = search needs
+same-length-6 c = c .before .before .before .before .before .before .before .before .rank .kept .1 .1 .1 .1 .1 .0
 
 returns : tie.Need-returns
 returns c = let s = c .before .before .before .before .before .before .before .before .before .before .before .before .before .before .before .before .before .before .before .before .before .before .before .before .before .before .before .before .before .before .before .before .before .before .before .before .before in all-ranked (s .args .sides) (s .args .shear .now) (s .args .shear-x .now) (s .args .p) (s .args .bounds .now) (s .args .rects .now) (s .args .places .now) (s .args .folds .now) (s .args .boxes .now) (membersOf (s .args .members .now) (s .args .ends .now) (s .args .sets)) (s .args .numbers .now) (s .pre .1) (c .before .before .before .before .before .before .before .before .before .before .before .before .before .before .before .before .before .before .before .before .before .keys .ensures) (c .before .before .before .before .before .before .before .before .before .before .before .before .before .before .before .before .before .keys3 .ensures) (c .before .before .before .before .before .before .before .before .rank .ensures)
