@@ -124,7 +124,7 @@ const COMPARISONS: &[Comparison] = &[
     },
     Comparison {
         name: "log_odds",
-        count: 200_000,
+        count: 1_000_000,
         run: findings::log_odds,
     },
     Comparison {
