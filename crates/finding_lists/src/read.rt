@@ -134,8 +134,12 @@ fn row_at(
     lengths: &[f64],
     i: usize,
 ) -> Row
-    requires { ⌜ Standing (columns (now rects) (now kinds) (now a) (now b) (now c) (now «log_odds») (now «first_values») (now «first_thresholds») (now «first_llrs») (now «second_values») (now «second_thresholds») (now «second_llrs») (now lengths)) i ⌝ }
-    ensures { λ r. ⌜ r ≡ rowAt (columns (now (rects .entry)) (now (kinds .entry)) (now (a .entry)) (now (b .entry)) (now (c .entry)) (now («log_odds» .entry)) (now («first_values» .entry)) (now («first_thresholds» .entry)) (now («first_llrs» .entry)) (now («second_values» .entry)) (now («second_thresholds» .entry)) (now («second_llrs» .entry)) (now (lengths .entry))) i ⌝ }
+    requires { ⌜ Standing (columns (now rects) (now kinds) (now a) (now b) (now c) (now «log_odds»)
+        (now «first_values») (now «first_thresholds») (now «first_llrs»)
+        (now «second_values») (now «second_thresholds») (now «second_llrs») (now lengths)) i ⌝ }
+    ensures { λ r. ⌜ r ≡ rowAt (columns (now (rects .entry)) (now (kinds .entry)) (now (a .entry)) (now (b .entry)) (now (c .entry)) (now («log_odds» .entry))
+        (now («first_values» .entry)) (now («first_thresholds» .entry)) (now («first_llrs» .entry))
+        (now («second_values» .entry)) (now («second_thresholds» .entry)) (now («second_llrs» .entry)) (now (lengths .entry))) i ⌝ }
 {
     let r = rects::rect_at(rects, i);
     let bbox = PageRect {
@@ -177,7 +181,9 @@ pub fn finding_at(
     count: usize,
     i: usize,
 ) -> FindingAt
-    ensures { λ r. ⌜ r ≡ findingAt (columns (now (rects .entry)) (now (kinds .entry)) (now (a .entry)) (now (b .entry)) (now (c .entry)) (now («log_odds» .entry)) (now («first_values» .entry)) (now («first_thresholds» .entry)) (now («first_llrs» .entry)) (now («second_values» .entry)) (now («second_thresholds» .entry)) (now («second_llrs» .entry)) (now (lengths .entry))) count i ⌝ }
+    ensures { λ r. ⌜ r ≡ findingAt (columns (now (rects .entry)) (now (kinds .entry)) (now (a .entry)) (now (b .entry)) (now (c .entry)) (now («log_odds» .entry))
+        (now («first_values» .entry)) (now («first_thresholds» .entry)) (now («first_llrs» .entry))
+        (now («second_values» .entry)) (now («second_thresholds» .entry)) (now («second_llrs» .entry)) (now (lengths .entry))) count i ⌝ }
 {
     let whole = (i < rects.len() / 4) & facts_long(kinds, a, b, c, i);
     let scored = four_long(log_odds, first_values, first_thresholds, first_llrs, i)

@@ -1,21 +1,16 @@
 -- What is given of some places is given of the smallest rectangle around them: it lies in the picture that all of theirs lie in.
 use mathlib.Core.Path.{subst}
 use mathlib.Core.List.{List}
-use Prim.Native.Nat.{ℕ, _+_, _-_, _*_, _≤_, _<_}
+use Prim.Native.Nat.{ℕ, _+_, _*_, _≤_, _<_}
 use native.Mathlib.Omega.{arith}
 use lib.Ieee.{Float}
-use lib.ListN.{length, getD}
+use lib.ListN.{length}
 use Rattle.lists.specs.Lists.{In}
-use Rattle.lists.proofs.Keep.{at-in, in-at}
-use Rattle.rects.specs.declared.Rect.{Rect}
+use Rattle.lists.proofs.Keep.{in-at}
 use Rattle.rects.specs.Rects.{rectAt, Inside}
 use Rattle.rects.specs.Around.{around, Places}
-use Rattle.rects.proofs.Around.{around-smallest}
+use Rattle.rects.proofs.Around.{around-inside}
 use Rattle.findings.specs.Steps.{AllGiven, RectsGiven, SetGiven, GridRectsGiven, GridsGiven}
-
--- the whole picture
-picture : ℕ → ℕ → Rect
-picture w h = record { x0 = 0; y0 = 0; x1 = w - 1; y1 = h - 1 }
 
 module _ {w h : ℕ} (rects places : List ℕ) (G : SetGiven w h rects places) where
   pub places-given : Places rects places
@@ -24,19 +19,8 @@ module _ {w h : ℕ} (rects places : List ℕ) (G : SetGiven w h rects places) w
   member-inside : (i : ℕ) → In places i → Inside w h (rectAt rects i)
   member-inside i m = let a = in-at places i m in subst (λ (j : ℕ). Inside w h (rectAt rects j)) (a .2) (G .inside (a .0) (a .1))
 
-  pub around-inside : Inside w h (around rects places)
-  unfolding picture
-  around-inside =
-      let S = around-smallest rects places (G .some) in
-      let r = G .inside 0 (G .some) in
-      let over = S .holds (getD places 0 0) (at-in places 0 (G .some)) in
-      let under = S .least (picture w h) (λ i m. let q = member-inside i m in record { left = omega arith; top = omega arith; right = omega (arith, q .right); bottom = omega (arith, q .bottom) }) in
-      record {
-        wide = omega (arith, over .left, over .right, r .wide);
-        high = omega (arith, over .top, over .bottom, r .high);
-        right = omega (arith, under .right, r .right);
-        bottom = omega (arith, under .bottom, r .bottom);
-      }
+  pub set-inside : Inside w h (around rects places)
+  set-inside = around-inside rects places (G .some) member-inside
 
 pub rects-given : {w h : ℕ} {rects marks : List ℕ} {coverages : List Float} {places : List ℕ} → 0 < length places → AllGiven w h rects marks coverages places → SetGiven w h rects places
 rects-given some A = record { some = some; rect = A .given .rect; inside = A .given .inside }

@@ -73,7 +73,9 @@ pub fn read_sets(
     work: &mut [u32],
     keys: &mut [u64],
 )
-    requires { ⌜ Given (now rects) × SetsIn (Rattle.rects.specs.Rects.count (now rects)) (membersOf (now members) (now ends) count) count × WorkRoom (Rattle.rects.specs.Rects.count (now rects)) (length (now order)) (length (now work)) (length (now keys)) × (Rattle.rects.specs.Rects.count (now rects) ≤ length (now reading)) ⌝ }
+    requires { ⌜ Given (now rects) × SetsIn (Rattle.rects.specs.Rects.count (now rects)) (membersOf (now members) (now ends) count) count
+        × WorkRoom (Rattle.rects.specs.Rects.count (now rects)) (length (now order)) (length (now work)) (length (now keys))
+        × (Rattle.rects.specs.Rects.count (now rects) ≤ length (now reading)) ⌝ }
     ensures { λ _. ⌜ now (reading .exit) ≡ written (concat (map (λ k. readingOrder (now (rects .entry)) (membersOf (now (members .entry)) (now (ends .entry)) count k)) (below count))) (now (reading .entry)) ⌝ }
 {
     let mut at = 0;

@@ -1,15 +1,17 @@
 -- Why `around` is the smallest rectangle: a union holds both its parts and lies inside whatever does. Assumes nothing.
 use mathlib.Core.Path.{_≡_, refl, sym, ap, _∙_, subst}
-use mathlib.Core.Logic.{_⊎_, inl, inr}
+use mathlib.Core.Logic.{inl, inr}
 use mathlib.Core.List.{List, [], _∷_, List·Memᴰ·cases-cons, List·Memᴰ·not-nil, List·Memᴰ, List·Memᴰ·head, List·Memᴰ·tail}
-use Prim.Native.Nat.{ℕ, suc, _+_, _≤_, _<_, min, max}
+use Prim.Native.Nat.{ℕ, _+_, _-_, _≤_, _<_}
 use native.Mathlib.Nat.{le-refl, le-trans, min-le-left, min-le-right, le-max-left, le-max-right, le-min, max-le, not-suc-le-zero}
 use native.Mathlib.Numerals.{add-one}
+use native.Mathlib.Omega.{arith}
 use lib.ListN.{length, getD, drop, drop-of-length-le}
 use lib.Seq.{drop-cons}
 use Rattle.lists.specs.Lists.{In}
+use Rattle.lists.proofs.Keep.{at-in}
 use Rattle.rects.specs.declared.Rect.{Rect}
-use Rattle.rects.specs.Rects.{rectAt}
+use Rattle.rects.specs.Rects.{rectAt, Inside}
 use Rattle.rects.specs.Around.{Holds, HoldsAll, Smallest, unionOf, unioned, around}
 
 holds-trans : (a b c : Rect) → Holds a b → Holds b c → Holds a c
@@ -56,6 +58,26 @@ around-smallest rects (k ∷ ks) h = record {
       ];
   least = λ s all. unioned-least rects (rectAt rects k) s ks (all k (List·Memᴰ·head refl)) (λ i m. all i (List·Memᴰ·tail m));
 }
+
+-- the whole picture
+picture : ℕ → ℕ → Rect
+picture w h = record { x0 = 0; y0 = 0; x1 = w - 1; y1 = h - 1 }
+
+-- around rectangles that lie in a picture it lies in the picture
+pub around-inside : {w h : ℕ} (rects places : List ℕ) → 0 < length places → ((i : ℕ) → In places i → Inside w h (rectAt rects i)) → Inside w h (around rects places)
+unfolding picture
+around-inside {w} {h} rects places some inside =
+    let S = around-smallest rects places some in
+    let first = at-in places 0 some in
+    let r = inside (getD places 0 0) first in
+    let over = S .holds (getD places 0 0) first in
+    let under = S .least (picture w h) (λ i m. let q = inside i m in record { left = omega arith; top = omega arith; right = omega (arith, q .right); bottom = omega (arith, q .bottom) }) in
+    record {
+      wide = omega (arith, over .left, over .right, r .wide);
+      high = omega (arith, over .top, over .bottom, r .high);
+      right = omega (arith, under .right, r .right);
+      bottom = omega (arith, under .bottom, r .bottom);
+    }
 
 -- ---- one place at a time
 

@@ -148,5 +148,7 @@ starred a b limit least =
 
 -- In every row the definition computes what document 01 says.
 pub starred-hold : (a b limit least : ℕ) → map (λ row. row .computed) (starred a b limit least) ≡ map (λ row. row .said) (starred a b limit least)
-unfolding rowOf raster columnShows placeShows touching horizontal centre2 start end joinsEnd Order.sortedBy Order.place Lines.lineAt Lines.linesTo Listing.grown Listing.closedSet Listing.closedSets segmentOf touches linesOf isTable tableNumbers freeNumbers joinedEnds shareOf Boxes.similar Grids.gridNumbers Ieee.ofInt Ieee.div Ieee.sub Ieee.mul Ieee.round Ieee.ofBits Ieee.isNan Ieee.lt Ieee.le Ieee.eq
+unfolding rowOf raster columnShows placeShows touching horizontal centre2 start end joinsEnd Order.sortedBy Order.place Lines.lineAt Lines.linesTo
+    Listing.grown Listing.closedSet Listing.closedSets segmentOf touches linesOf isTable tableNumbers freeNumbers joinedEnds shareOf Boxes.similar Grids.gridNumbers
+    Ieee.ofInt Ieee.div Ieee.sub Ieee.mul Ieee.round Ieee.ofBits Ieee.isNan Ieee.lt Ieee.le Ieee.eq
 starred-hold a b limit least = refl

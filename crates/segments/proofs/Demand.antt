@@ -1,10 +1,9 @@
 -- Demand 3 for pieces: the sets of the rulings are the closed sets in another order, and each has its smallest rectangle and one direction.
 use mathlib.Core.Path.{_≡_, refl, sym, ap, _∙_}
 use mathlib.Core.Bool.{Bool, true, false}
-use mathlib.Core.Logic.{_⊎_, inl, inr}
-use mathlib.Core.List.{List, [], _∷_, map}
-use Prim.Native.Nat.{ℕ, zero, suc, _≤_, _<_}
-use native.Mathlib.Nat.{not-suc-le-zero, le-of-suc-le-suc}
+use mathlib.Core.Logic.{inl, inr}
+use mathlib.Core.List.{List, [], map}
+use Prim.Native.Nat.{ℕ, _<_}
 use native.Mathlib.Omega.{arith}
 use borrow.Author.Tests.{eqb-true}
 use lib.Dec.{eqb}
@@ -19,16 +18,14 @@ use Rattle.sets.proofs.Grown.{closedSets-listed}
 use Rattle.sets.proofs.Reordered.{listed-ordered}
 use Rattle.order.specs.Order.{keyAt, Before, Sorted, sortedIndexes}
 use Rattle.order.proofs.Computed.{sorted-by, sorted-length}
-use Rattle.rects.specs.declared.Rect.{Rect}
 use Rattle.rects.specs.Rects.{count, rectAt, AllInside}
 use Rattle.rects.specs.Around.{around}
-use Rattle.rects.proofs.Around.{around-smallest}
+use Rattle.rects.proofs.Around.{around-smallest, around-inside}
 use Rattle.rects.specs.Rects.{Inside}
 use Rattle.pieces.specs.Pieces.{horizontal, touch, Touch}
 use Rattle.segments.specs.Rulings.{pieceSets, keyOf, keysOf, rulingSets, directionOf, directionNumber, StandsBefore}
 use Rattle.segments.specs.Contract.{Demand3, InOrder}
 use Rattle.pieces.proofs.Touching.{touching-agrees}
-use Rattle.segments.proofs.Rectangles.{all-wider, around-inside}
 use Rattle.segments.proofs.Order.{key-orders, key-tells, size-sorted}
 
 number-tells : (a b : Bool) → directionNumber a ≡ directionNumber b → a ≡ b
@@ -112,7 +109,7 @@ module _ (pieces : List ℕ) (across gap : ℕ) where
 
   module _ (inside : AllInside 8192 8192 pieces) where
     set-inside : (a : ℕ) → a < length ss → Inside 8192 8192 (around pieces (getD ss a []))
-    set-inside a h = let C = pieces-listed .closed a h in around-inside pieces (getD ss a []) inside (C .nonempty) (C .within)
+    set-inside a h = let C = pieces-listed .closed a h in around-inside pieces (getD ss a []) (C .nonempty) (λ i m. inside i (C .within i m))
 
     stands : (a b : ℕ) → a < length ss → b < length ss → Before (keyAt keys) a b → StandsBefore pieces (getD ss a []) (getD ss b [])
     stands a b ha hb (inl l) = inl (key-orders (set-inside a ha) (set-inside b hb) (rw (key-at a ha, key-at b hb) at l))

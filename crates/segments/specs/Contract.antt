@@ -84,7 +84,8 @@ AllNear raster w h pieces ss cs = (k : ℕ) → k < length ss → Near raster w 
 
 -- What a call of `segments` promises: its number, its count, the limits of document 01, the lists, and demand 3; of an accepted page also that the
 -- rulings stand in order, that each contrast is near its exact value, and that the lists give each set back.
-pub record Segments (raster : List ℕ) (w h : ℕ) (xheight : Float) (pieces : List ℕ) (p : RulingsParams) (room : Bool) (rs ds : List ℕ) (cs : List Float) (ms es ps ls le ws ks rs′ ds′ : List ℕ) (cs′ : List Float) (ms′ es′ ps′ ls′ le′ ws′ ks′ : List ℕ) (q n : ℕ) : Type 0 where
+pub record Segments (raster : List ℕ) (w h : ℕ) (xheight : Float) (pieces : List ℕ) (p : RulingsParams) (room : Bool)
+    (rs ds : List ℕ) (cs : List Float) (ms es ps ls le ws ks rs′ ds′ : List ℕ) (cs′ : List Float) (ms′ es′ ps′ ls′ le′ ws′ ks′ : List ℕ) (q n : ℕ) : Type 0 where
   pub number : q ≡ firstMissed (segmentsQuestions w h xheight pieces p room)
   pub count : n ≡ cond (eqb q 0) (length (setsOf xheight pieces p)) 0
   pub across : q ≡ 0 → IsLimit (p .«merge_across_xh») xheight

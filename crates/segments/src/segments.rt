@@ -85,7 +85,9 @@ pub fn segments(
 ) -> Answer
     ensures { λ r.
         ⌜ Segments (now (raster .entry)) w h xheight (now (pieces .entry)) p
-        (roomFits w h (count (now (pieces .entry))) (length (now (raster .entry))) (length (now (rects .entry))) (length (now (directions .entry))) (length (now (contrasts .entry))) (length (now (members .entry))) (length (now (ends .entry))) (length (now (parents .entry))) (length (now (listed .entry))) (length (now («listed_ends» .entry))) (length (now (work .entry))) (length (now (keys .entry))))
+        (roomFits w h (count (now (pieces .entry))) (length (now (raster .entry)))
+        (length (now (rects .entry))) (length (now (directions .entry))) (length (now (contrasts .entry))) (length (now (members .entry))) (length (now (ends .entry)))
+        (length (now (parents .entry))) (length (now (listed .entry))) (length (now («listed_ends» .entry))) (length (now (work .entry))) (length (now (keys .entry))))
         (now (rects .entry)) (now (directions .entry)) (now (contrasts .entry)) (now (members .entry)) (now (ends .entry))
         (now (parents .entry)) (now (listed .entry)) (now («listed_ends» .entry)) (now (work .entry)) (now (keys .entry))
         (now (rects .exit)) (now (directions .exit)) (now (contrasts .exit)) (now (members .exit)) (now (ends .exit))

@@ -57,7 +57,8 @@ pub fn write_rulings(
 )
     requires { ⌜ Picture (now raster) w h (now pieces) × Parts (now pieces) (now members) (now ends) count × RoomForRulings count (now rects) (now directions) (now contrasts) ⌝ }
     ensures { λ _.
-        ⌜ Described (now (raster .entry)) w h (now (pieces .entry)) (partsOf (now (members .entry)) (now (ends .entry)) count) (now (rects .entry)) (now (directions .entry)) (now (contrasts .entry)) (now (rects .exit)) (now (directions .exit)) (now (contrasts .exit)) ⌝ }
+        ⌜ Described (now (raster .entry)) w h (now (pieces .entry)) (partsOf (now (members .entry)) (now (ends .entry)) count)
+        (now (rects .entry)) (now (directions .entry)) (now (contrasts .entry)) (now (rects .exit)) (now (directions .exit)) (now (contrasts .exit)) ⌝ }
 {
     let mut k = 0;
     while k < count {

@@ -9,7 +9,7 @@ use lib.ListN.{length, getD}
 use Rattle.lists.specs.Lists.{keep}
 use Rattle.findings.specs.Made.{Rulings}
 use Rattle.findings.proofs.OnPage.{placed-most}
-use Rattle.findings.proofs.Given.{places-given, around-inside, rects-given}
+use Rattle.findings.proofs.Given.{places-given, set-inside, rects-given}
 use Rattle.findings.proofs.Free.{both-counted, from-facts}
 use borrow.Author.Needs.{needs}
 use Rattle.findings.proofs.free_findings.finding.Statement.{statement}
@@ -26,7 +26,7 @@ bounding-requires : tie.Need-bounding-requires
 bounding-requires c κs = let s = c .before .before .before .before in (s .pre .1, places-given (s .args .rects .now) (s .args .places .now) (rects-given (s .pre .1) (s .pre .2)))
 
 on-page-requires : tie.Need-on-page-requires
-on-page-requires c κs = let s = c .before .before .before .before .before in (s .pre .0, rw (c .bounding .ensures) (around-inside (s .args .rects .now) (s .args .places .now) (rects-given (s .pre .1) (s .pre .2))))
+on-page-requires c κs = let s = c .before .before .before .before .before in (s .pre .0, rw (c .bounding .ensures) (set-inside (s .args .rects .now) (s .args .places .now) (rects-given (s .pre .1) (s .pre .2))))
 
 count-equal-requires : tie.Need-count-equal-requires
 count-equal-requires c κs = search needs

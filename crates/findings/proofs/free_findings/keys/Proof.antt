@@ -5,7 +5,7 @@ use lib.ListN.{length}
 use Rattle.rects.specs.declared.Rect.{Rect}
 use Rattle.layout.specs.ToPage.{rectToPage}
 use Rattle.findings.specs.Keys.{pageKey}
-use Rattle.findings.proofs.Given.{places-given, around-inside, enough-given}
+use Rattle.findings.proofs.Given.{places-given, set-inside, enough-given}
 use Rattle.findings.proofs.Free.{short-of, reached, no-key, one-key, key-inside}
 use borrow.Author.Needs.{needs, scaled-fits}
 use Rattle.findings.proofs.free_findings.keys.Statement.{statement}
@@ -21,7 +21,7 @@ bounding-requires : tie.Need-bounding-requires
 bounding-requires c κs = let s = c .before .before .before .before .before in let G = enough-given (s .pre .1) (reached (s .args .p .«min_free_rules») (length (s .args .places .now)) (c .before .enough .ensures) (c .if1 .left)) (s .pre .2) in (G .some, places-given (s .args .rects .now) (s .args .places .now) G)
 
 rect-key-requires : tie.Need-rect-key-requires
-rect-key-requires c κs = let s = c .before .before .before .before .before .before in (s .pre .0, rw (c .bounding .ensures) (around-inside (s .args .rects .now) (s .args .places .now) (enough-given (s .pre .1) (reached (s .args .p .«min_free_rules») (length (s .args .places .now)) (c .before .before .enough .ensures) (c .before .if1 .left)) (s .pre .2))), omega arith, omega arith)
+rect-key-requires c κs = let s = c .before .before .before .before .before .before in (s .pre .0, rw (c .bounding .ensures) (set-inside (s .args .rects .now) (s .args .places .now) (enough-given (s .pre .1) (reached (s .args .p .«min_free_rules») (length (s .args .places .now)) (c .before .before .enough .ensures) (c .before .if1 .left)) (s .pre .2))), omega arith, omega arith)
 
 mul-keys : tie.Need-mul-keys
 mul-keys c = let s = c .before .before .before .before .before .before .before in scaled-fits (s .args .at) (length (s .args .keys .now)) 8 (key-inside (s .args .p) (s .args .places .now) (reached (s .args .p .«min_free_rules») (length (s .args .places .now)) (c .before .before .before .enough .ensures) (c .before .before .if1 .left)) (s .pre .3)) (s .good .1 .1 .1 .1 .1 .1 .1 .0 .1)

@@ -15,7 +15,7 @@ use Rattle.layout.specs.declared.rect.PageRect.{PageRect}
 use Rattle.evidence.specs.declared.finding.Finding.{Finding}
 use Rattle.evidence.specs.Kinds.{gridFinding}
 use Rattle.findings.specs.Made.{Scan, onPage, meanAt, ticked, gridOf}
-use Rattle.findings.proofs.Given.{places-given, around-inside, rects-given}
+use Rattle.findings.proofs.Given.{places-given, set-inside, rects-given}
 use borrow.Author.Needs.{needs}
 use Rattle.findings.proofs.grid_findings.finding.Statement.{statement}
 use Rattle.findings.proofs.grid_findings.finding.Tie as tie
@@ -38,7 +38,7 @@ bounding-requires c κs =
 on-page-requires : tie.Need-on-page-requires
 on-page-requires c κs =
     let s = c .before .before .before .before .before in
-    (s .pre .0, rw (c .bounding .ensures) (around-inside (s .args .rects .now) (s .args .set .now) (rects-given (s .pre .1) (s .pre .2))))
+    (s .pre .0, rw (c .bounding .ensures) (set-inside (s .args .rects .now) (s .args .set .now) (rects-given (s .pre .1) (s .pre .2))))
 
 count-equal-requires : tie.Need-count-equal-requires
 count-equal-requires c κs = search needs

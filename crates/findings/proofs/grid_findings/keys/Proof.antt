@@ -17,7 +17,7 @@ use Rattle.layout.specs.declared.sides.Sides.{Sides}
 use Rattle.layout.specs.ToPage.{rectToPage}
 use Rattle.findings.specs.Keys.{pageKey, gridKey}
 use Rattle.findings.specs.Steps.{SetGiven, GridRectsGiven}
-use Rattle.findings.proofs.Given.{places-given, around-inside}
+use Rattle.findings.proofs.Given.{places-given, set-inside}
 use Rattle.findings.proofs.KeyLoop.{Keyed, keyed-none, keyed-more, keyed-long, keyed-all}
 use Rattle.findings.proofs.grid_findings.keys.Statement.{statement}
 use Rattle.findings.proofs.grid_findings.keys.Tie as tie
@@ -36,7 +36,7 @@ module _ {w h : ℕ} (rects set : List ℕ) {part : ℕ → List ℕ} {numbers :
   bounded = (given .some, places-given rects set given)
 
   inside : {r : Rect} → r ≡ around rects set → Inside w h r
-  inside a = subst (Inside w h) (sym a) (around-inside rects set given)
+  inside a = subst (Inside w h) (sym a) (set-inside rects set given)
 
 read-key : (sides : Sides) (shear shear-x : List ℤ) (rects : List ℕ) {set set′ : List ℕ} {r : Rect} {key : ℕ} → set ≡ set′ → r ≡ around rects set → key ≡ pageKey (rectToPage sides shear shear-x r) 18
     → key ≡ gridKey sides shear shear-x rects set′

@@ -15,7 +15,7 @@ use Rattle.segments.specs.Rulings.{keyOf, keysOf}
 use Rattle.segments.specs.Steps.{Parts, partsOf}
 use Rattle.segments.proofs.Runs.{value-written}
 use Rattle.lists.proofs.Keep.{map-map}
-use Rattle.segments.proofs.Rectangles.{places-known, around-inside}
+use Rattle.segments.proofs.Rectangles.{places-known, set-inside}
 use Rattle.segments.proofs.keys.set_keys.Statement.{statement}
 use Rattle.segments.proofs.keys.set_keys.Tie as tie
 
@@ -45,7 +45,7 @@ placed : (pieces ms es set′ : List ℕ) {n k : ℕ} → Parts pieces ms es n �
 placed pieces ms es set′ P l e = let s = some pieces ms es set′ P l e in (s .0, places-known pieces set′ (s .1))
 
 inside : (pieces ms es set′ : List ℕ) {n k : ℕ} {r : Rect} → AllInside 8192 8192 pieces → Parts pieces ms es n → k < n → set′ ≡ membersOf ms es n k → r ≡ around pieces set′ → Inside 8192 8192 r
-inside pieces ms es set′ A P l e q = let s = some pieces ms es set′ P l e in rw q (around-inside pieces set′ A (s .0) (s .1))
+inside pieces ms es set′ A P l e q = let s = some pieces ms es set′ P l e in rw q (set-inside pieces set′ A (s .0) (s .1))
 
 abbrev Inv-loop : tie.InvT-loop
 Inv-loop pieces members ends count keys₀ k₀ keys k = Keys pieces members ends count keys₀ keys k

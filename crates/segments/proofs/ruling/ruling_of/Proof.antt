@@ -19,7 +19,7 @@ use Rattle.pieces.specs.Pieces.{horizontal}
 use Rattle.segments.specs.Rulings.{directionOf, rulingOf}
 use Rattle.pieces.specs.Steps.{Ordered}
 use Rattle.segments.specs.Steps.{Picture, RulingMade}
-use Rattle.segments.proofs.Rectangles.{places-known, around-inside, inside-ordered}
+use Rattle.segments.proofs.Rectangles.{places-known, set-inside, inside-ordered}
 use Rattle.segments.proofs.ruling.ruling_of.Statement.{statement}
 use Rattle.segments.proofs.ruling.ruling_of.Tie as tie
 
@@ -31,7 +31,7 @@ module _ {raster : List ℕ} {w h : ℕ} (pieces set : List ℕ) (P : Picture ra
   first-ordered e = rw e (inside-ordered (P .inside (getD set 0 0) first))
 
   on-picture : {r : Rect} → r ≡ around pieces set → OnPicture raster w h r
-  on-picture e = rw e (record { full = P .full; narrow = P .narrow; low = P .low; inside = around-inside pieces set (P .inside) some known })
+  on-picture e = rw e (record { full = P .full; narrow = P .narrow; low = P .low; inside = set-inside pieces set (P .inside) some known })
 
 made : (raster : List ℕ) (w h : ℕ) (pieces set : List ℕ) {r f : Rect} {t : Bool} {x : Float} → r ≡ around pieces set → f ≡ rectAt pieces (getD set 0 0)
     → t ≡ horizontal f → Contrasted raster w h r t x → RulingMade raster w h pieces set (record { rect = r; horizontal = t; contrast = x })
