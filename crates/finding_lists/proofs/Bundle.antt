@@ -9,6 +9,12 @@ use lib.ListN.{length, getD, set, length-set, length-map}
 use lib.Seq.{getD-set-same, getD-set-other}
 use Rattle.finding_lists.specs.Steps.{EachLong, EachSet}
 
+-- where a list of lists has a list with an entry, it has that many lists
+has-list : {A : Type 0} (l : List (List A)) (k : ℕ) → 0 < length (getD l k []) → k < length l
+has-list [] k h = absurd (not-suc-le-zero h)
+has-list (x ∷ l) zero h = omega arith
+has-list (x ∷ l) (suc k) h = let r : k < length l = has-list l k h in omega arith
+
 module _ {A : Type 0} where
   -- where a bundle has no such list
   abbrev nowhere : RefT (List A)
@@ -69,12 +75,15 @@ module _ {A : Type 0} where
       rw (all-past vs b 0 i k (omega (arith, e)))
       (subst (λ (x : List A). i < length x) (behind b k) (let t : i + 1 ≤ length (getD (map now b) k []) = R .long k l in omega arith))
 
+  -- a bundle whose last list has an entry has all its lists
+  pub enough : (b : List (RefT (List A))) (m i : ℕ) → EachLong (suc m) (i + 1) (map now b) → suc m ≤ length b
+  enough b m i R = rw (sym (length-map b now)) (has-list (map now b) m (let t : i + 1 ≤ length (getD (map now b) m []) = R .long m (omega arith) in omega arith))
+
   -- all are stored
-  pub each-stored : (vs : List A) (b : List (RefT (List A))) (n i : ℕ) (d : A) → length vs ≡ n → length b ≡ n
+  pub each-stored : (vs : List A) (b : List (RefT (List A))) (n i : ℕ) (d : A) → length vs ≡ n → n ≤ length b
       → EachSet n i (λ k. getD vs k d) (map now b) (map now (allStored b 0 i vs))
   each-stored vs b n i d e f =
       record {
-        lists = length-map (allStored b 0 i vs) now ∙ all-length vs b 0 i ∙ sym (length-map b now);
         put = λ k l.
             behind (allStored b 0 i vs) k
             ∙ subst (λ (m : ℕ). nth (allStored b 0 i vs) m ≡ set (nth b m) i (getD vs k d)) (zero-add k) (all-at vs b 0 i k d (omega arith) (omega arith))

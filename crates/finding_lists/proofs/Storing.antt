@@ -19,8 +19,6 @@ pub row-stored : {row row′ : Row} {i : ℕ} {l l′ : Columns} → row ≡ row
 row-stored {row} {i} {l} {l′} e r f s =
     subst (λ (w : Row). Stored (w ∷ []) (i ∷ []) l l′) e
     (record {
-      fact-lists = f .lists;
-      score-lists = s .lists;
       rects = r;
       facts = λ k h. f .put k h ∙ ap (λ (j : ℕ). set (getD (l .facts) k []) j (fact k row)) once;
       scores = λ k h. s .put k h ∙ ap (λ (j : ℕ). set (getD (l .scores) k []) j (score k row)) once;
@@ -34,8 +32,6 @@ pub stored-then : (rows rows′ : List Row) (ps ps′ : List ℕ) {l l′ l″ :
     → Stored (rows ++ rows′) (ps ++ ps′) l l″
 stored-then rows rows′ ps ps′ {l} {l′} e S T =
     record {
-      fact-lists = T .fact-lists ∙ S .fact-lists;
-      score-lists = T .score-lists ∙ S .score-lists;
       rects = T .rects ∙ ap (placed 4 (map rectOf rows′) ps′) (S .rects) ∙ joined 4 rectOf (l .rects);
       facts = λ k h. T .facts k h ∙ ap (placed 1 (map (λ r. single (fact k r)) rows′) ps′) (S .facts k h) ∙ joined 1 (λ r. single (fact k r)) (getD (l .facts) k []);
       scores = λ k h. T .scores k h ∙ ap (placed 1 (map (λ r. single (score k r)) rows′) ps′) (S .scores k h) ∙ joined 1 (λ r. single (score k r)) (getD (l .scores) k []);
@@ -47,7 +43,7 @@ stored-then rows rows′ ps ps′ {l} {l′} e S T =
 
 -- nothing yet
 pub stored-none : {l : Columns} (ps : List ℕ) → Stored [] ps l l
-stored-none ps = record { fact-lists = refl; score-lists = refl; rects = refl; facts = λ k h. refl; scores = λ k h. refl }
+stored-none ps = record { rects = refl; facts = λ k h. refl; scores = λ k h. refl }
 
 -- the lists keep their room
 pub still-roomy : (rows : List Row) (ps : List ℕ) {n : ℕ} {l l′ : Columns} → Roomy n l → Stored rows ps l l′ → Roomy n l′
@@ -56,11 +52,9 @@ still-roomy rows ps {n} {l} {l′} R S =
       few = R .few;
       rects = rw (ap length (S .rects) ∙ placed-long 4 (map rectOf rows) ps (l .rects)) (R .rects);
       facts = record {
-        lists = S .fact-lists ∙ R .facts .lists;
         long = λ k h. rw (ap length (S .facts k h) ∙ placed-long 1 (map (λ r. single (fact k r)) rows) ps (getD (l .facts) k [])) (R .facts .long k h);
       };
       scores = record {
-        lists = S .score-lists ∙ R .scores .lists;
         long = λ k h. rw (ap length (S .scores k h) ∙ placed-long 1 (map (λ r. single (score k r)) rows) ps (getD (l .scores) k [])) (R .scores .long k h);
       };
     }
@@ -71,8 +65,8 @@ room-for-fewer {m} {n} {l} h R =
     record {
       few = let x : n < 2 ^ 32 = R .few in omega arith;
       rects = let x : 4 * n ≤ length (l .rects) = R .rects in omega arith;
-      facts = record { lists = R .facts .lists; long = λ k q. let x : n ≤ length (getD (l .facts) k []) = R .facts .long k q in omega arith };
-      scores = record { lists = R .scores .lists; long = λ k q. let x : n ≤ length (getD (l .scores) k []) = R .scores .long k q in omega arith };
+      facts = record { long = λ k q. let x : n ≤ length (getD (l .facts) k []) = R .facts .long k q in omega arith };
+      scores = record { long = λ k q. let x : n ≤ length (getD (l .scores) k []) = R .scores .long k q in omega arith };
     }
 
 -- ---- rows stored at their ranks

@@ -23,20 +23,16 @@ single x = x ∷ []
 
 -- Rows were stored at places of the lists.
 pub record Stored (rows : List Row) (ps : List ℕ) (l l′ : Columns) : Type 0 where
-  pub fact-lists : length (l′ .facts) ≡ length (l .facts)
-  pub score-lists : length (l′ .scores) ≡ length (l .scores)
   pub rects : l′ .rects ≡ placed 4 (map rectOf rows) ps (l .rects)
   pub facts : (k : ℕ) → k < 4 → getD (l′ .facts) k [] ≡ placed 1 (map (λ r. single (fact k r)) rows) ps (getD (l .facts) k [])
   pub scores : (k : ℕ) → k < 8 → getD (l′ .scores) k [] ≡ placed 1 (map (λ r. single (score k r)) rows) ps (getD (l .scores) k [])
 
 -- Each list of a bundle of m has room for n entries.
 pub record EachLong {A : Type 0} (m n : ℕ) (b : List (List A)) : Type 0 where
-  pub lists : length b ≡ m
   pub long : (k : ℕ) → k < m → n ≤ length (getD b k [])
 
 -- Value k stands at place i of list k of a bundle of m, and all else there is as it was.
 pub record EachSet {A : Type 0} (m i : ℕ) (value : ℕ → A) (b b′ : List (List A)) : Type 0 where
-  pub lists : length b′ ≡ length b
   pub put : (k : ℕ) → k < m → getD b′ k [] ≡ set (getD b k []) i (value k)
 
 -- The lists have room for n findings.

@@ -1,12 +1,10 @@
 -- `put::put_facts` meets its contract: the stores go to different lists, each at the same place.
-use mathlib.Core.Path.{refl, sym, _∙_}
+use mathlib.Core.Path.{refl}
 use mathlib.Core.List.{[], _∷_}
 use native.Mathlib.Omega.{arith}
 use borrow.Author.Needs.{needs}
-use denote.Ref.{now}
-use lib.ListN.{length-map}
 use Rattle.finding_lists.specs.Columns.{factsOf}
-use Rattle.finding_lists.proofs.Bundle.{room-at, each-stored}
+use Rattle.finding_lists.proofs.Bundle.{room-at, enough, each-stored}
 use Rattle.finding_lists.proofs.put.put_facts.Statement.{statement}
 use Rattle.finding_lists.proofs.put.put_facts.Tie as tie
 
@@ -47,7 +45,7 @@ index-2-facts-4 : tie.Need-index-2-facts-4
 index-2-facts-4 c = room-at (c .args .row .kind ∷ c .args .row .a ∷ c .args .row .b ∷ []) (c .args .facts .now) 4 (c .args .i) 3 (c .pre .1) refl (omega arith)
 
 returns : tie.Need-returns
-returns c = each-stored (factsOf (c .args .row)) (c .args .facts .now) 4 (c .args .i) _ refl (sym (length-map (c .args .facts .now) now) ∙ c .pre .1 .lists)
+returns c = each-stored (factsOf (c .args .row)) (c .args .facts .now) 4 (c .args .i) _ refl (enough (c .args .facts .now) 3 (c .args .i) (c .pre .1))
 
 pub put-facts-spec : {M : Type 1} → statement M
 put-facts-spec =

@@ -1,12 +1,10 @@
 -- `put::put_scores` meets its contract: the stores go to different lists, each at the same place.
-use mathlib.Core.Path.{refl, sym, _∙_}
+use mathlib.Core.Path.{refl}
 use mathlib.Core.List.{[], _∷_}
 use native.Mathlib.Omega.{arith}
 use borrow.Author.Needs.{needs}
-use denote.Ref.{now}
-use lib.ListN.{length-map}
 use Rattle.finding_lists.specs.Columns.{scoresOf}
-use Rattle.finding_lists.proofs.Bundle.{room-at, each-stored}
+use Rattle.finding_lists.proofs.Bundle.{room-at, enough, each-stored}
 use Rattle.finding_lists.proofs.put.put_scores.Statement.{statement}
 use Rattle.finding_lists.proofs.put.put_scores.Tie as tie
 
@@ -83,7 +81,7 @@ index-2-scores-8 : tie.Need-index-2-scores-8
 index-2-scores-8 c = room-at (c .args .row .«log_odds» ∷ c .args .row .first .value ∷ c .args .row .first .threshold ∷ c .args .row .first .llr ∷ c .args .row .second .value ∷ c .args .row .second .threshold ∷ c .args .row .second .llr ∷ []) (c .args .scores .now) 8 (c .args .i) 7 (c .pre .1) refl (omega arith)
 
 returns : tie.Need-returns
-returns c = each-stored (scoresOf (c .args .row)) (c .args .scores .now) 8 (c .args .i) _ refl (sym (length-map (c .args .scores .now) now) ∙ c .pre .1 .lists)
+returns c = each-stored (scoresOf (c .args .row)) (c .args .scores .now) 8 (c .args .i) _ refl (enough (c .args .scores .now) 7 (c .args .i) (c .pre .1))
 
 pub put-scores-spec : {M : Type 1} → statement M
 put-scores-spec =

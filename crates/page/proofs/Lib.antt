@@ -1,0 +1,2 @@
+-- Why the guard's number is that of the first missed question.
+mod Firsts

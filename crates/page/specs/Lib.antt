@@ -1,0 +1,5 @@
+pub mod Page
+pub mod Lent
+pub mod Questions
+pub mod Answer
+pub mod Call

@@ -1,0 +1,3 @@
+-- Why a stage over bundles leaves what its core leaves.
+pub mod Bundle
+pub mod Sent
