@@ -27,7 +27,7 @@ use Rattle.page.specs.declared.answer.Answer.{Answer}
 use Rattle.page.specs.declared.counts.Counts.{Counts}
 use Rattle.page.specs.Page as Page
 use Rattle.page.specs.Page.{Page}
-use Rattle.page.specs.Lent.{Lent}
+use Rattle.page.specs.Lent.{RuleLists, MarkLists, Lent}
 use Rattle.page.specs.Questions.{allQuestions}
 use Rattle.page.specs.Answer.{accepted, refusal}
 
@@ -48,7 +48,7 @@ countsOf g =
 
 -- What an accepted page leaves: each list is its definition of the page, written from the front, and places past it keep their content. So what
 -- a lent list holds afterwards is a function of the page and of what it held: demand 1.
-pub record Answers (g : Page) (l l′ : Lent) : Type 0 where
+pub record RuleAnswers (g : Page) (l l′ : RuleLists) : Type 0 where
   pub rects : l′ .rects ≡ written (Page.rects g) (l .rects)
   pub directions : l′ .directions ≡ written (Page.directions g) (l .directions)
   pub contrasts : l′ .contrasts ≡ written (Page.contrasts g) (l .contrasts)
@@ -64,14 +64,20 @@ pub record Answers (g : Page) (l l′ : Lent) : Type 0 where
   pub free : l′ .free ≡ written (Page.free g) (l .free)
   pub printed-members : l′ .printed-members ≡ written (concat (Page.printedSets g)) (l .printed-members)
   pub printed-ends : l′ .printed-ends ≡ written (endsFrom 0 (Page.printedSets g)) (l .printed-ends)
-  pub table-numbers : l′ .table-numbers ≡ written (Page.tableNumbers g) (l .table-numbers)
+  pub numbers : l′ .numbers ≡ written (Page.tableNumbers g) (l .numbers)
+
+pub record MarkAnswers (g : Page) (l l′ : MarkLists) : Type 0 where
   pub boxes : l′ .boxes ≡ written (Page.boxRects g) (l .boxes)
   pub marks : l′ .marks ≡ written (Page.marks g) (l .marks)
   pub coverages : l′ .coverages ≡ written (Page.coverages g) (l .coverages)
   pub reading : l′ .reading ≡ written (Page.reading g) (l .reading)
-  pub box-members : l′ .box-members ≡ written (concat (Page.boxSets g)) (l .box-members)
-  pub box-ends : l′ .box-ends ≡ written (endsFrom 0 (Page.boxSets g)) (l .box-ends)
-  pub grid-numbers : l′ .grid-numbers ≡ written (Page.gridNumbers g) (l .grid-numbers)
+  pub members : l′ .members ≡ written (concat (Page.boxSets g)) (l .members)
+  pub ends : l′ .ends ≡ written (endsFrom 0 (Page.boxSets g)) (l .ends)
+  pub numbers : l′ .numbers ≡ written (Page.gridNumbers g) (l .numbers)
+
+pub record Answers (g : Page) (l l′ : Lent) : Type 0 where
+  pub rules : RuleAnswers g (l .rules) (l′ .rules)
+  pub marks : MarkAnswers g (l .marks) (l′ .marks)
   pub found : AllWritten (map rowOf (Page.findings g)) (l .found) (l′ .found)
 
 -- The limits are the rounded products, not below 0.
@@ -88,22 +94,22 @@ pub record Limits (g : Page) : Type 0 where
 -- Every table and every grid has exactly one finding, and no finding of these kinds has none.
 pub record Demand3 (g : Page) (l′ : Lent) : Type 0 where
   pub pieces : Segments.Demand3 (g .pieces) (acrossLimit (g .settings) (g .xheight)) (gapLimit (g .settings) (g .xheight)) (Page.pieceSets g)
-  pub pieces-read : ReadAs (Page.pieceSets g) (l′ .piece-members) (l′ .piece-ends) (length (Page.pieceSets g))
+  pub pieces-read : ReadAs (Page.pieceSets g) (l′ .rules .piece-members) (l′ .rules .piece-ends) (length (Page.pieceSets g))
   pub printed : Tables.Demand3 (Page.rects g) (Page.directions g) (Page.printed g) (Page.tableLimits g)
-  pub printed-read : ReadAs (Page.printedSets g) (l′ .printed-members) (l′ .printed-ends) (length (Page.printedSets g))
+  pub printed-read : ReadAs (Page.printedSets g) (l′ .rules .printed-members) (l′ .rules .printed-ends) (length (Page.printedSets g))
   pub every-box :
       EveryBox (inkAt (g .sides .w) (g .ink)) (limitsOf (g .dpi) (g .xheight) (g .settings)) (g .glyphs)
       (pagePlaces (g .sides .w) (g .dpi) (g .xheight) (g .ink) (g .glyphs) (g .settings)) (Page.boxes g)
   pub boxes : Grids.Demand3 (Page.boxRects g) (alignLimit (g .settings) (g .xheight)) (g .settings .«grid_min_boxes»)
-  pub boxes-read : ReadAs (Page.boxSets g) (l′ .box-members) (l′ .box-ends) (length (Page.boxSets g))
-  pub reading-read : ReadAs (map (readingOrder (Page.boxRects g)) (Page.boxSets g)) (l′ .reading) (l′ .box-ends) (length (Page.boxSets g))
+  pub boxes-read : ReadAs (Page.boxSets g) (l′ .marks .members) (l′ .marks .ends) (length (Page.boxSets g))
+  pub reading-read : ReadAs (map (readingOrder (Page.boxRects g)) (Page.boxSets g)) (l′ .marks .reading) (l′ .marks .ends) (length (Page.boxSets g))
   pub findings :
       FindingsPaired (Page.scan g) (g .dpi) (Page.ruled g) (Page.printed g) (Page.faint g) (Page.tabled g) (Page.free g) (Page.boxed g)
 
 -- The rulings stand in document 01's order, and each listed contrast is within 2^-45 of the exact one.
 pub record RulingsRight (g : Page) (l′ : Lent) : Type 0 where
   pub order : Segments.InOrder (g .pieces) (Page.pieceSets g)
-  pub near : Segments.AllNear (Page.raster g) (g .sides .w) (g .sides .h) (g .pieces) (Page.pieceSets g) (l′ .contrasts)
+  pub near : Segments.AllNear (Page.raster g) (g .sides .w) (g .sides .h) (g .pieces) (Page.pieceSets g) (l′ .rules .contrasts)
 
 -- What a call of `detect` promises: the number of the first missed question; the counts, all 0 where one is missed; a page that misses one of 1 to
 -- 14 leaves every list, work lists too; else the levelled raster holds the levelling, and where 15 is not missed either, the lists hold the answers.
@@ -111,7 +117,7 @@ pub record Detect (g : Page) (l l′ : Lent) (a : Answer) : Type 0 where
   pub number : a .number ≡ firstMissed (allQuestions g l)
   pub counts : a ≡ cond (eqb (a .number) 0) (accepted (countsOf g) (length (Page.findings g))) (refusal (a .number))
   pub refused : (a .number ≡ 0 → ⊥) → (a .number ≡ 15 → ⊥) → l′ ≡ l
-  pub raster : (a .number ≡ 0) ⊎ (a .number ≡ 15) → (l′ .levelled ≡ Page.raster g) × Levelling (g .sides) (g .gray) (g .shear) (g .shear-x) (l′ .levelled)
+  pub raster : (a .number ≡ 0) ⊎ (a .number ≡ 15) → (l′ .rules .levelled ≡ Page.raster g) × Levelling (g .sides) (g .gray) (g .shear) (g .shear-x) (l′ .rules .levelled)
   pub answers : a .number ≡ 0 → Answers g l l′
   pub limits : a .number ≡ 0 → Limits g
   pub rulings : a .number ≡ 0 → RulingsRight g l′

@@ -3,3 +3,4 @@ pub mod Lent
 pub mod Questions
 pub mod Answer
 pub mod Call
+pub mod Steps
