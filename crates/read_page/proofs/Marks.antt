@@ -1,5 +1,5 @@
 -- Boxes and grids: what each stage asks, and what it leaves of the page.
-use mathlib.Core.Path.{_≡_, sym, ap, subst, _∙_}
+use mathlib.Core.Path.{_≡_, sym, ap, subst, transport, _∙_}
 use mathlib.Core.List.{List}
 use Prim.Native.Nat.{ℕ, _*_, _≤_}
 use native.Mathlib.Omega.{arith}
@@ -22,9 +22,17 @@ use Rattle.read_page.proofs.Known.{Known}
 use Rattle.read_page.proofs.Rules.{front, still}
 
 module _ (g : Page) (K : Known g) (l : MarkLists) (Q : MarkRoom (count (g .glyphs)) l) where
-  pub boxes-ready : Boxes.Ready (g .ink) (g .sides .w) (g .glyphs) (limitsOf (g .dpi) (g .xheight) (g .settings)) (l .boxes) (l .marks) (l .coverages)
-  boxes-ready =
-      ready (g .sides .w) (g .sides .h) (g .dpi) (g .xheight) (g .ink) (g .glyphs) (g .settings) (K .sides .w-most) (K .sides .h-most) (K .ink) (K .glyphs) (K .settled) (Q .boxes) (Q .marks) (Q .coverages)
+  pub boxes-ready : {bx mk : List ℕ} {cv : List Float} → bx ≡ l .boxes → mk ≡ l .marks → cv ≡ l .coverages
+      → Boxes.Ready (g .ink) (g .sides .w) (g .glyphs) (limitsOf (g .dpi) (g .xheight) (g .settings)) bx mk cv
+  boxes-ready eb em ec =
+      ready (g .sides .w) (g .sides .h) (g .dpi) (g .xheight) (g .ink) (g .glyphs) (g .settings) (K .sides .w-most) (K .sides .h-most) (K .ink) (K .glyphs) (K .settled)
+      (omega (arith, ap length eb, Q .boxes)) (omega (arith, ap length em, Q .marks)) (omega (arith, ap length ec, Q .coverages))
+
+  -- what the boxes' stage leaves, of the lists as they were lent
+  pub boxed : {bx mk : List ℕ} {cv : List Float} {b′ mk′ : List ℕ} {cv′ : List Float} {n : ℕ} → bx ≡ l .boxes → mk ≡ l .marks → cv ≡ l .coverages
+      → Boxes.Made (g .ink) (g .sides .w) (g .glyphs) (limitsOf (g .dpi) (g .xheight) (g .settings)) bx mk cv b′ mk′ cv′ n
+      → Boxes.Made (g .ink) (g .sides .w) (g .glyphs) (limitsOf (g .dpi) (g .xheight) (g .settings)) (l .boxes) (l .marks) (l .coverages) b′ mk′ cv′ n
+  boxed {b′ = b′} {mk′} {cv′} {n} eb em ec M = transport (λ i. Boxes.Made (g .ink) (g .sides .w) (g .glyphs) (limitsOf (g .dpi) (g .xheight) (g .settings)) (eb i) (em i) (ec i) b′ mk′ cv′ n) M
 
   module _ {b mk : List ℕ} {cv : List Float} {n : ℕ} (M : Boxes.Made (g .ink) (g .sides .w) (g .glyphs) (limitsOf (g .dpi) (g .xheight) (g .settings)) (l .boxes) (l .marks) (l .coverages) b mk cv n) where
     pub few : length (Page.boxes g) ≤ count (g .glyphs)
@@ -54,20 +62,20 @@ module _ (g : Page) (K : Known g) (l : MarkLists) (Q : MarkRoom (count (g .glyph
     pub coverages-still : length cv ≡ length (l .coverages)
     coverages-still = still (Page.coverages g) (l .coverages) (M .coverages) (omega (arith, Boxed.coverages-long g (K .few-glyphs) few picture (M .below-8192), few, Q .coverages))
 
-    pub grids-ready : {m e nu : List ℕ} → m ≡ l .members → e ≡ l .ends → nu ≡ l .numbers
+    pub grids-ready : {m e re nu pa wo : List ℕ} → m ≡ l .members → e ≡ l .ends → re ≡ l .reading → nu ≡ l .numbers → pa ≡ l .parents → wo ≡ l .order
         → Settled (g .settings) (g .xheight) × (4 * n ≤ length b) × Grids.Given (take (4 * n) b)
-        × Grids.Roomy n (record { members = m; ends = e; reading = l .reading; numbers = nu; parents = l .parents; work = l .order; keys = l .keys })
-    grids-ready em ee en = (
+        × Grids.Roomy n (record { members = m; ends = e; reading = re; numbers = nu; parents = pa; work = wo; keys = l .keys })
+    grids-ready em ee er en ep ew = (
       K .settled,
       omega (arith, M .few, boxes-still, Q .boxes),
       subst Grids.Given (sym boxes-front) (Boxed.boxes-given g (K .few-glyphs) few picture (M .below-8192)),
       record {
         members = omega (arith, M .few, ap length em, Q .members);
         ends = omega (arith, M .few, ap length ee, Q .ends);
-        reading = omega (arith, M .few, Q .reading);
+        reading = omega (arith, M .few, ap length er, Q .reading);
         numbers = omega (arith, M .few, ap length en, Q .numbers);
-        parents = omega (arith, M .few, Q .parents);
-        work = omega (arith, M .few, Q .order);
+        parents = omega (arith, M .few, ap length ep, Q .parents);
+        work = omega (arith, M .few, ap length ew, Q .order);
         keys = omega (arith, M .few, Q .keys);
       },
     )

@@ -141,11 +141,11 @@ module _ (g : Page) (K : Known g) (l : RuleLists) (Q : RuleRoom (g .sides .w) (g
       pub faint-still : length f ≡ length (l .faint)
       faint-still = still (Page.faint g) (l .faint) (S .faint) (omega (arith, both, few, Q .faint))
 
-      pub tables-ready : {m e pa wo ke : List ℕ} → m ≡ l .printed-members → e ≡ l .printed-ends → length pa ≡ length (l .parents) → length wo ≡ length (l .order) → length ke ≡ length (l .keys)
+      pub tables-ready : {m e fr pa wo ke : List ℕ} {sh : List Float} → m ≡ l .printed-members → e ≡ l .printed-ends → sh ≡ l .shares → fr ≡ l .free → length pa ≡ length (l .parents) → length wo ≡ length (l .order) → length ke ≡ length (l .keys)
           → Settled (g .settings) (g .xheight) × PartsLong n a r d p × Meeting.Given (take (4 * n) r) (take n d) (take a p)
           × Tables.Roomy a
-          (record { members = m; ends = e; numbers = l .numbers; bounds = l .bounds; rows = l .rows; columns = l .columns; rulings = l .rulings; shares = l .shares; free = l .free; parents = pa; work = wo; keys = ke })
-      tables-ready em ee lp lw lk = (
+          (record { members = m; ends = e; numbers = l .numbers; bounds = l .bounds; rows = l .rows; columns = l .columns; rulings = l .rulings; shares = sh; free = fr; parents = pa; work = wo; keys = ke })
+      tables-ready em ee es ef lp lw lk = (
         K .settled,
         record { rects-long = omega (arith, n-few, rects-still, Q .rects); directions-long = omega (arith, n-few, directions-still, Q .directions); places-long = omega (arith, a-few, printed-still, Q .printed) },
         (let x = sym rects-front in let y = sym directions-front in let z = sym printed-front in transport (λ i. Meeting.Given (x i) (y i) (z i))) (Ruled.chosen-given g (K .few-pieces) (K .sides .w-most) (K .sides .h-most) (K .pieces)),
@@ -157,8 +157,8 @@ module _ (g : Page) (K : Known g) (l : RuleLists) (Q : RuleRoom (g .sides .w) (g
           rows = omega (arith, a-few, Q .rows);
           columns = omega (arith, a-few, Q .columns);
           rulings = omega (arith, a-few, Q .rulings);
-          shares = omega (arith, a-few, Q .shares);
-          free = omega (arith, a-few, Q .free);
+          shares = omega (arith, a-few, ap length es, Q .shares);
+          free = omega (arith, a-few, ap length ef, Q .free);
           parents = omega (arith, a-few, lp, Q .parents);
           work = omega (arith, a-few, lw, Q .order);
           keys = omega (arith, a-few, lk, Q .keys);

@@ -19,31 +19,23 @@ pub fn read(
     pieces: &[u32],
     glyphs: &[u32],
     levelled: &mut [&mut [u8]; 1],
-    rects: &mut [&mut [u32]; 1],
-    directions: &mut [&mut [u32]; 1],
-    contrasts: &mut [&mut [f64]; 1],
-    printed: &mut [&mut [u32]; 1],
-    faint: &mut [&mut [u32]; 1],
+    rects: &mut [&mut [u32]; 2],
+    tags: &mut [&mut [u32]; 2],
+    values: &mut [&mut [f64]; 3],
+    chosen: &mut [&mut [u32]; 2],
+    rest: &mut [&mut [u32]; 2],
+    members: &mut [&mut [u32]; 3],
+    ends: &mut [&mut [u32]; 3],
+    numbers: &mut [&mut [u32]; 2],
     bounds: &mut [&mut [u32]; 1],
     rows: &mut [&mut [u32]; 1],
     columns: &mut [&mut [u32]; 1],
     rulings: &mut [&mut [u32]; 1],
-    shares: &mut [&mut [f64]; 1],
-    free: &mut [&mut [u32]; 1],
-    boxes: &mut [&mut [u32]; 1],
-    marks: &mut [&mut [u32]; 1],
-    coverages: &mut [&mut [f64]; 1],
-    reading: &mut [&mut [u32]; 1],
-    members: &mut [&mut [u32]; 3],
-    ends: &mut [&mut [u32]; 3],
-    numbers: &mut [&mut [u32]; 2],
-    parents: &mut [&mut [u32]; 1],
+    parents: &mut [&mut [u32]; 2],
+    order: &mut [&mut [u32]; 2],
     listed: &mut [&mut [u32]; 1],
     listed_ends: &mut [&mut [u32]; 1],
-    order: &mut [&mut [u32]; 1],
     keys: &mut [&mut [u64]; 1],
-    box_parents: &mut [&mut [u32]; 1],
-    box_order: &mut [&mut [u32]; 1],
     box_keys: &mut [&mut [u64]; 1],
 ) -> Counts
     requires { ⌜ Ready (record {
@@ -62,18 +54,18 @@ pub fn read(
         (record {
           levelled = listAt 0 (now levelled);
           rects = listAt 0 (now rects);
-          directions = listAt 0 (now directions);
-          contrasts = listAt 0 (now contrasts);
-          printed = listAt 0 (now printed);
-          faint = listAt 0 (now faint);
+          directions = listAt 0 (now tags);
+          contrasts = listAt 0 (now values);
+          printed = listAt 0 (now chosen);
+          faint = listAt 1 (now rest);
           piece-members = listAt 0 (now members);
           piece-ends = listAt 0 (now ends);
           bounds = listAt 0 (now bounds);
           rows = listAt 0 (now rows);
           columns = listAt 0 (now columns);
           rulings = listAt 0 (now rulings);
-          shares = listAt 0 (now shares);
-          free = listAt 0 (now free);
+          shares = listAt 1 (now values);
+          free = listAt 0 (now rest);
           printed-members = listAt 1 (now members);
           printed-ends = listAt 1 (now ends);
           numbers = listAt 0 (now numbers);
@@ -84,15 +76,15 @@ pub fn read(
           keys = listAt 0 (now keys);
         })
         (record {
-          boxes = listAt 0 (now boxes);
-          marks = listAt 0 (now marks);
-          coverages = listAt 0 (now coverages);
-          reading = listAt 0 (now reading);
+          boxes = listAt 1 (now rects);
+          marks = listAt 1 (now tags);
+          coverages = listAt 2 (now values);
+          reading = listAt 1 (now chosen);
           members = listAt 2 (now members);
           ends = listAt 2 (now ends);
           numbers = listAt 1 (now numbers);
-          parents = listAt 0 (now «box_parents»);
-          order = listAt 0 (now «box_order»);
+          parents = listAt 1 (now parents);
+          order = listAt 1 (now order);
           keys = listAt 0 (now «box_keys»);
         }) ⌝ }
     ensures { λ n. ⌜ Done (record {
@@ -111,18 +103,18 @@ pub fn read(
         (record {
           levelled = listAt 0 (now (levelled .entry));
           rects = listAt 0 (now (rects .entry));
-          directions = listAt 0 (now (directions .entry));
-          contrasts = listAt 0 (now (contrasts .entry));
-          printed = listAt 0 (now (printed .entry));
-          faint = listAt 0 (now (faint .entry));
+          directions = listAt 0 (now (tags .entry));
+          contrasts = listAt 0 (now (values .entry));
+          printed = listAt 0 (now (chosen .entry));
+          faint = listAt 1 (now (rest .entry));
           piece-members = listAt 0 (now (members .entry));
           piece-ends = listAt 0 (now (ends .entry));
           bounds = listAt 0 (now (bounds .entry));
           rows = listAt 0 (now (rows .entry));
           columns = listAt 0 (now (columns .entry));
           rulings = listAt 0 (now (rulings .entry));
-          shares = listAt 0 (now (shares .entry));
-          free = listAt 0 (now (free .entry));
+          shares = listAt 1 (now (values .entry));
+          free = listAt 0 (now (rest .entry));
           printed-members = listAt 1 (now (members .entry));
           printed-ends = listAt 1 (now (ends .entry));
           numbers = listAt 0 (now (numbers .entry));
@@ -133,32 +125,32 @@ pub fn read(
           keys = listAt 0 (now (keys .entry));
         })
         (record {
-          boxes = listAt 0 (now (boxes .entry));
-          marks = listAt 0 (now (marks .entry));
-          coverages = listAt 0 (now (coverages .entry));
-          reading = listAt 0 (now (reading .entry));
+          boxes = listAt 1 (now (rects .entry));
+          marks = listAt 1 (now (tags .entry));
+          coverages = listAt 2 (now (values .entry));
+          reading = listAt 1 (now (chosen .entry));
           members = listAt 2 (now (members .entry));
           ends = listAt 2 (now (ends .entry));
           numbers = listAt 1 (now (numbers .entry));
-          parents = listAt 0 (now («box_parents» .entry));
-          order = listAt 0 (now («box_order» .entry));
+          parents = listAt 1 (now (parents .entry));
+          order = listAt 1 (now (order .entry));
           keys = listAt 0 (now («box_keys» .entry));
         })
         (record {
           levelled = listAt 0 (now (levelled .exit));
           rects = listAt 0 (now (rects .exit));
-          directions = listAt 0 (now (directions .exit));
-          contrasts = listAt 0 (now (contrasts .exit));
-          printed = listAt 0 (now (printed .exit));
-          faint = listAt 0 (now (faint .exit));
+          directions = listAt 0 (now (tags .exit));
+          contrasts = listAt 0 (now (values .exit));
+          printed = listAt 0 (now (chosen .exit));
+          faint = listAt 1 (now (rest .exit));
           piece-members = listAt 0 (now (members .exit));
           piece-ends = listAt 0 (now (ends .exit));
           bounds = listAt 0 (now (bounds .exit));
           rows = listAt 0 (now (rows .exit));
           columns = listAt 0 (now (columns .exit));
           rulings = listAt 0 (now (rulings .exit));
-          shares = listAt 0 (now (shares .exit));
-          free = listAt 0 (now (free .exit));
+          shares = listAt 1 (now (values .exit));
+          free = listAt 0 (now (rest .exit));
           printed-members = listAt 1 (now (members .exit));
           printed-ends = listAt 1 (now (ends .exit));
           numbers = listAt 0 (now (numbers .exit));
@@ -169,15 +161,15 @@ pub fn read(
           keys = listAt 0 (now (keys .exit));
         })
         (record {
-          boxes = listAt 0 (now (boxes .exit));
-          marks = listAt 0 (now (marks .exit));
-          coverages = listAt 0 (now (coverages .exit));
-          reading = listAt 0 (now (reading .exit));
+          boxes = listAt 1 (now (rects .exit));
+          marks = listAt 1 (now (tags .exit));
+          coverages = listAt 2 (now (values .exit));
+          reading = listAt 1 (now (chosen .exit));
           members = listAt 2 (now (members .exit));
           ends = listAt 2 (now (ends .exit));
           numbers = listAt 1 (now (numbers .exit));
-          parents = listAt 0 (now («box_parents» .exit));
-          order = listAt 0 (now («box_order» .exit));
+          parents = listAt 1 (now (parents .exit));
+          order = listAt 1 (now (order .exit));
           keys = listAt 0 (now («box_keys» .exit));
         }) n ⌝ }
 {
@@ -189,8 +181,8 @@ pub fn read(
         pieces,
         levelled,
         rects,
-        directions,
-        contrasts,
+        tags,
+        values,
         members,
         ends,
         parents,
@@ -199,15 +191,15 @@ pub fn read(
         order,
         keys,
     );
-    let parted = stages::rulings::split_in(p, count, contrasts, printed, faint);
-    let ruled_tables = stages::ruled_tables::tables_in(
+    let parted = stages::rulings::split_in(p, count, values, chosen, rest);
+    let ruled = stages::ruled_tables::tables_in(
         xheight,
         p,
         count,
         parted.printed,
         rects,
-        directions,
-        printed,
+        tags,
+        chosen,
         members,
         ends,
         numbers,
@@ -215,45 +207,45 @@ pub fn read(
         rows,
         columns,
         rulings,
-        shares,
-        free,
+        values,
+        rest,
         parents,
         order,
         keys,
     );
-    let box_count = stages::marked_boxes::boxes_in(
+    let boxes = stages::marked_boxes::boxes_in(
         sides,
         dpi,
         xheight,
         p,
         ink,
         glyphs,
-        boxes,
-        marks,
-        coverages,
+        rects,
+        tags,
+        values,
     );
-    let box_grids = stages::marked_boxes::grids_in(
+    let boxed = stages::marked_boxes::grids_in(
         xheight,
         p,
-        box_count,
         boxes,
+        rects,
         members,
         ends,
-        reading,
+        chosen,
         numbers,
-        box_parents,
-        box_order,
+        parents,
+        order,
         box_keys,
     );
     Counts {
         rulings: count,
         printed: parted.printed,
         faint: parted.faint,
-        tables: ruled_tables.tables,
-        boxes: box_count,
-        grids: box_grids.grids,
-        printed_sets: ruled_tables.sets,
-        free: ruled_tables.free,
-        box_sets: box_grids.sets,
+        tables: ruled.tables,
+        boxes,
+        grids: boxed.grids,
+        printed_sets: ruled.sets,
+        free: ruled.free,
+        box_sets: boxed.sets,
     }
 }

@@ -19,26 +19,18 @@ pub fn boxes_in(
     p: RulingsParams,
     ink: &[u8],
     glyphs: &[u32],
-    boxes: &mut [&mut [u32]; 1],
-    marks: &mut [&mut [u32]; 1],
-    coverages: &mut [&mut [f64]; 1],
+    rects: &mut [&mut [u32]; 2],
+    tags: &mut [&mut [u32]; 2],
+    values: &mut [&mut [f64]; 3],
 ) -> usize
-    requires { ⌜ Boxes.Ready (now ink) (sides .w) (now glyphs) (limitsOf dpi xheight p) (listAt 0 (now boxes)) (listAt 0 (now marks)) (listAt 0 (now coverages)) ⌝ }
+    requires { ⌜ Boxes.Ready (now ink) (sides .w) (now glyphs) (limitsOf dpi xheight p) (listAt 1 (now rects)) (listAt 1 (now tags)) (listAt 2 (now values)) ⌝ }
     ensures { λ n. ⌜ Boxes.Made (now (ink .entry)) (sides .w) (now (glyphs .entry)) (limitsOf dpi xheight p)
-        (listAt 0 (now (boxes .entry))) (listAt 0 (now (marks .entry))) (listAt 0 (now (coverages .entry)))
-        (listAt 0 (now (boxes .exit))) (listAt 0 (now (marks .exit))) (listAt 0 (now (coverages .exit))) n
-        × Only 0 (now (boxes .entry)) (now (boxes .exit)) × Only 0 (now (marks .entry)) (now (marks .exit)) × Only 0 (now (coverages .entry)) (now (coverages .exit)) ⌝ }
+        (listAt 1 (now (rects .entry))) (listAt 1 (now (tags .entry))) (listAt 2 (now (values .entry)))
+        (listAt 1 (now (rects .exit))) (listAt 1 (now (tags .exit))) (listAt 2 (now (values .exit))) n
+        × Only 1 (now (rects .entry)) (now (rects .exit)) × Only 1 (now (tags .entry)) (now (tags .exit)) × Only 2 (now (values .entry)) (now (values .exit)) ⌝ }
 {
     let limits = boxes::limits::limits_of(dpi, xheight, p);
-    boxes::write::find(
-        ink,
-        sides.w,
-        glyphs,
-        limits,
-        boxes[0],
-        marks[0],
-        coverages[0],
-    )
+    boxes::write::find(ink, sides.w, glyphs, limits, rects[1], tags[1], values[2])
 }
 
 // Among the first n boxes.
@@ -81,51 +73,51 @@ pub fn grids_in(
     xheight: f64,
     p: RulingsParams,
     n: usize,
-    boxes: &mut [&mut [u32]; 1],
+    rects: &mut [&mut [u32]; 2],
     members: &mut [&mut [u32]; 3],
     ends: &mut [&mut [u32]; 3],
-    reading: &mut [&mut [u32]; 1],
+    chosen: &mut [&mut [u32]; 2],
     numbers: &mut [&mut [u32]; 2],
-    box_parents: &mut [&mut [u32]; 1],
-    box_order: &mut [&mut [u32]; 1],
+    parents: &mut [&mut [u32]; 2],
+    order: &mut [&mut [u32]; 2],
     box_keys: &mut [&mut [u64]; 1],
 ) -> Counts
-    requires { ⌜ Settled p xheight × (4 * n ≤ length (listAt 0 (now boxes))) × Grids.Given (take (4 * n) (listAt 0 (now boxes))) × Grids.Roomy n
+    requires { ⌜ Settled p xheight × (4 * n ≤ length (listAt 1 (now rects))) × Grids.Given (take (4 * n) (listAt 1 (now rects))) × Grids.Roomy n
         (record {
           members = listAt 2 (now members);
           ends = listAt 2 (now ends);
-          reading = listAt 0 (now reading);
+          reading = listAt 1 (now chosen);
           numbers = listAt 1 (now numbers);
-          parents = listAt 0 (now «box_parents»);
-          work = listAt 0 (now «box_order»);
+          parents = listAt 1 (now parents);
+          work = listAt 1 (now order);
           keys = listAt 0 (now «box_keys»);
         }) ⌝ }
-    ensures { λ r. ⌜ Grids.Filled (take (4 * n) (listAt 0 (now (boxes .entry)))) (alignLimit p xheight) (p .«grid_min_boxes»)
+    ensures { λ r. ⌜ Grids.Filled (take (4 * n) (listAt 1 (now (rects .entry)))) (alignLimit p xheight) (p .«grid_min_boxes»)
         (record {
           members = listAt 2 (now (members .entry));
           ends = listAt 2 (now (ends .entry));
-          reading = listAt 0 (now (reading .entry));
+          reading = listAt 1 (now (chosen .entry));
           numbers = listAt 1 (now (numbers .entry));
-          parents = listAt 0 (now («box_parents» .entry));
-          work = listAt 0 (now («box_order» .entry));
+          parents = listAt 1 (now (parents .entry));
+          work = listAt 1 (now (order .entry));
           keys = listAt 0 (now («box_keys» .entry));
         })
         (record {
           members = listAt 2 (now (members .exit));
           ends = listAt 2 (now (ends .exit));
-          reading = listAt 0 (now (reading .exit));
+          reading = listAt 1 (now (chosen .exit));
           numbers = listAt 1 (now (numbers .exit));
-          parents = listAt 0 (now («box_parents» .exit));
-          work = listAt 0 (now («box_order» .exit));
+          parents = listAt 1 (now (parents .exit));
+          work = listAt 1 (now (order .exit));
           keys = listAt 0 (now («box_keys» .exit));
         })
         (r .sets) (r .grids)
-        × Kept (now (boxes .entry)) (now (boxes .exit))
-        × Only 2 (now (members .entry)) (now (members .exit)) × Only 2 (now (ends .entry)) (now (ends .exit)) × Only 0 (now (reading .entry)) (now (reading .exit))
-        × Only 1 (now (numbers .entry)) (now (numbers .exit)) × Only 0 (now («box_parents» .entry)) (now («box_parents» .exit)) × Only 0 (now («box_order» .entry)) (now («box_order» .exit))
+        × Kept (now (rects .entry)) (now (rects .exit))
+        × Only 2 (now (members .entry)) (now (members .exit)) × Only 2 (now (ends .entry)) (now (ends .exit)) × Only 1 (now (chosen .entry)) (now (chosen .exit))
+        × Only 1 (now (numbers .entry)) (now (numbers .exit)) × Only 1 (now (parents .entry)) (now (parents .exit)) × Only 1 (now (order .entry)) (now (order .exit))
         × Only 0 (now («box_keys» .entry)) (now («box_keys» .exit)) ⌝ }
 {
-    let boxes = &mut boxes[0][..];
+    let boxes = &mut rects[1][..];
     grids_of(
         xheight,
         p,
@@ -133,10 +125,10 @@ pub fn grids_in(
         boxes,
         members[2],
         ends[2],
-        reading[0],
+        chosen[1],
         numbers[1],
-        box_parents[0],
-        box_order[0],
+        parents[1],
+        order[1],
         box_keys[0],
     )
 }

@@ -106,9 +106,9 @@ pub fn tables_in(
     p: RulingsParams,
     n: usize,
     k: usize,
-    rects: &mut [&mut [u32]; 1],
-    directions: &mut [&mut [u32]; 1],
-    printed: &mut [&mut [u32]; 1],
+    rects: &mut [&mut [u32]; 2],
+    tags: &mut [&mut [u32]; 2],
+    chosen: &mut [&mut [u32]; 2],
     members: &mut [&mut [u32]; 3],
     ends: &mut [&mut [u32]; 3],
     numbers: &mut [&mut [u32]; 2],
@@ -116,14 +116,14 @@ pub fn tables_in(
     rows: &mut [&mut [u32]; 1],
     columns: &mut [&mut [u32]; 1],
     rulings: &mut [&mut [u32]; 1],
-    shares: &mut [&mut [f64]; 1],
-    free: &mut [&mut [u32]; 1],
-    parents: &mut [&mut [u32]; 1],
-    order: &mut [&mut [u32]; 1],
+    values: &mut [&mut [f64]; 3],
+    rest: &mut [&mut [u32]; 2],
+    parents: &mut [&mut [u32]; 2],
+    order: &mut [&mut [u32]; 2],
     keys: &mut [&mut [u64]; 1],
 ) -> Counts
-    requires { ⌜ Settled p xheight × PartsLong n k (listAt 0 (now rects)) (listAt 0 (now directions)) (listAt 0 (now printed))
-        × Given (take (4 * n) (listAt 0 (now rects))) (take n (listAt 0 (now directions))) (take k (listAt 0 (now printed))) × Roomy k
+    requires { ⌜ Settled p xheight × PartsLong n k (listAt 0 (now rects)) (listAt 0 (now tags)) (listAt 0 (now chosen))
+        × Given (take (4 * n) (listAt 0 (now rects))) (take n (listAt 0 (now tags))) (take k (listAt 0 (now chosen))) × Roomy k
         (record {
           members = listAt 1 (now members);
           ends = listAt 1 (now ends);
@@ -132,13 +132,13 @@ pub fn tables_in(
           rows = listAt 0 (now rows);
           columns = listAt 0 (now columns);
           rulings = listAt 0 (now rulings);
-          shares = listAt 0 (now shares);
-          free = listAt 0 (now free);
+          shares = listAt 1 (now values);
+          free = listAt 0 (now rest);
           parents = listAt 0 (now parents);
           work = listAt 0 (now order);
           keys = listAt 0 (now keys);
         }) ⌝ }
-    ensures { λ r. ⌜ Filled (take (4 * n) (listAt 0 (now (rects .entry)))) (take n (listAt 0 (now (directions .entry)))) (take k (listAt 0 (now (printed .entry)))) (limitsOf p xheight)
+    ensures { λ r. ⌜ Filled (take (4 * n) (listAt 0 (now (rects .entry)))) (take n (listAt 0 (now (tags .entry)))) (take k (listAt 0 (now (chosen .entry)))) (limitsOf p xheight)
         (record {
           members = listAt 1 (now (members .entry));
           ends = listAt 1 (now (ends .entry));
@@ -147,8 +147,8 @@ pub fn tables_in(
           rows = listAt 0 (now (rows .entry));
           columns = listAt 0 (now (columns .entry));
           rulings = listAt 0 (now (rulings .entry));
-          shares = listAt 0 (now (shares .entry));
-          free = listAt 0 (now (free .entry));
+          shares = listAt 1 (now (values .entry));
+          free = listAt 0 (now (rest .entry));
           parents = listAt 0 (now (parents .entry));
           work = listAt 0 (now (order .entry));
           keys = listAt 0 (now (keys .entry));
@@ -161,22 +161,22 @@ pub fn tables_in(
           rows = listAt 0 (now (rows .exit));
           columns = listAt 0 (now (columns .exit));
           rulings = listAt 0 (now (rulings .exit));
-          shares = listAt 0 (now (shares .exit));
-          free = listAt 0 (now (free .exit));
+          shares = listAt 1 (now (values .exit));
+          free = listAt 0 (now (rest .exit));
           parents = listAt 0 (now (parents .exit));
           work = listAt 0 (now (order .exit));
           keys = listAt 0 (now (keys .exit));
         })
         (r .sets) (r .tables) (r .free)
-        × Kept (now (rects .entry)) (now (rects .exit)) × Kept (now (directions .entry)) (now (directions .exit)) × Kept (now (printed .entry)) (now (printed .exit))
+        × Kept (now (rects .entry)) (now (rects .exit)) × Kept (now (tags .entry)) (now (tags .exit)) × Kept (now (chosen .entry)) (now (chosen .exit))
         × Only 1 (now (members .entry)) (now (members .exit)) × Only 1 (now (ends .entry)) (now (ends .exit)) × Only 0 (now (numbers .entry)) (now (numbers .exit))
         × Only 0 (now (bounds .entry)) (now (bounds .exit)) × Only 0 (now (rows .entry)) (now (rows .exit)) × Only 0 (now (columns .entry)) (now (columns .exit))
-        × Only 0 (now (rulings .entry)) (now (rulings .exit)) × Only 0 (now (shares .entry)) (now (shares .exit)) × Only 0 (now (free .entry)) (now (free .exit))
+        × Only 0 (now (rulings .entry)) (now (rulings .exit)) × Only 1 (now (values .entry)) (now (values .exit)) × Only 0 (now (rest .entry)) (now (rest .exit))
         × Only 0 (now (parents .entry)) (now (parents .exit)) × Only 0 (now (order .entry)) (now (order .exit)) × Only 0 (now (keys .entry)) (now (keys .exit)) ⌝ }
 {
     let rects = &mut rects[0][..];
-    let directions = &mut directions[0][..];
-    let printed = &mut printed[0][..];
+    let directions = &mut tags[0][..];
+    let printed = &mut chosen[0][..];
     tables_of(
         xheight,
         p,
@@ -192,8 +192,8 @@ pub fn tables_in(
         rows[0],
         columns[0],
         rulings[0],
-        shares[0],
-        free[0],
+        values[1],
+        rest[0],
         parents[0],
         order[0],
         keys[0],

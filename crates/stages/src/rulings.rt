@@ -17,25 +17,25 @@ pub fn rulings_in(
     p: RulingsParams,
     pieces: &[u32],
     levelled: &mut [&mut [u8]; 1],
-    rects: &mut [&mut [u32]; 1],
-    directions: &mut [&mut [u32]; 1],
-    contrasts: &mut [&mut [f64]; 1],
+    rects: &mut [&mut [u32]; 2],
+    tags: &mut [&mut [u32]; 2],
+    values: &mut [&mut [f64]; 3],
     members: &mut [&mut [u32]; 3],
     ends: &mut [&mut [u32]; 3],
-    parents: &mut [&mut [u32]; 1],
+    parents: &mut [&mut [u32]; 2],
     listed: &mut [&mut [u32]; 1],
     listed_ends: &mut [&mut [u32]; 1],
-    order: &mut [&mut [u32]; 1],
+    order: &mut [&mut [u32]; 2],
     keys: &mut [&mut [u64]; 1],
 ) -> usize
     requires { ⌜ Settled p xheight
-        × Ready (listAt 0 (now levelled)) (sides .w) (sides .h) (now pieces) (listAt 0 (now rects)) (listAt 0 (now directions)) (listAt 0 (now contrasts))
+        × Ready (listAt 0 (now levelled)) (sides .w) (sides .h) (now pieces) (listAt 0 (now rects)) (listAt 0 (now tags)) (listAt 0 (now values))
         (listAt 0 (now members)) (listAt 0 (now ends)) (listAt 0 (now parents)) (listAt 0 (now listed)) (listAt 0 (now «listed_ends»)) (listAt 0 (now order)) (listAt 0 (now keys)) ⌝ }
     ensures { λ n. ⌜ Made (listAt 0 (now (levelled .entry))) (sides .w) (sides .h) (now (pieces .entry)) (setsOf xheight (now (pieces .entry)) p)
-        (listAt 0 (now (rects .entry))) (listAt 0 (now (directions .entry))) (listAt 0 (now (contrasts .entry))) (listAt 0 (now (members .entry))) (listAt 0 (now (ends .entry)))
-        (listAt 0 (now (rects .exit))) (listAt 0 (now (directions .exit))) (listAt 0 (now (contrasts .exit))) (listAt 0 (now (members .exit))) (listAt 0 (now (ends .exit))) n
-        × Kept (now (levelled .entry)) (now (levelled .exit)) × Only 0 (now (rects .entry)) (now (rects .exit)) × Only 0 (now (directions .entry)) (now (directions .exit))
-        × Only 0 (now (contrasts .entry)) (now (contrasts .exit)) × Only 0 (now (members .entry)) (now (members .exit)) × Only 0 (now (ends .entry)) (now (ends .exit))
+        (listAt 0 (now (rects .entry))) (listAt 0 (now (tags .entry))) (listAt 0 (now (values .entry))) (listAt 0 (now (members .entry))) (listAt 0 (now (ends .entry)))
+        (listAt 0 (now (rects .exit))) (listAt 0 (now (tags .exit))) (listAt 0 (now (values .exit))) (listAt 0 (now (members .exit))) (listAt 0 (now (ends .exit))) n
+        × Kept (now (levelled .entry)) (now (levelled .exit)) × Only 0 (now (rects .entry)) (now (rects .exit)) × Only 0 (now (tags .entry)) (now (tags .exit))
+        × Only 0 (now (values .entry)) (now (values .exit)) × Only 0 (now (members .entry)) (now (members .exit)) × Only 0 (now (ends .entry)) (now (ends .exit))
         × Only 0 (now (parents .entry)) (now (parents .exit)) × Only 0 (now (listed .entry)) (now (listed .exit)) × Only 0 (now («listed_ends» .entry)) (now («listed_ends» .exit))
         × Only 0 (now (order .entry)) (now (order .exit)) × Only 0 (now (keys .entry)) (now (keys .exit)) ⌝ }
 {
@@ -50,8 +50,8 @@ pub fn rulings_in(
         across,
         gap,
         rects[0],
-        directions[0],
-        contrasts[0],
+        tags[0],
+        values[0],
         members[0],
         ends[0],
         parents[0],
@@ -79,15 +79,15 @@ fn split_of(
 pub fn split_in(
     p: RulingsParams,
     n: usize,
-    contrasts: &mut [&mut [f64]; 1],
-    printed: &mut [&mut [u32]; 1],
-    faint: &mut [&mut [u32]; 1],
+    values: &mut [&mut [f64]; 3],
+    chosen: &mut [&mut [u32]; 2],
+    rest: &mut [&mut [u32]; 2],
 ) -> Parted
-    requires { ⌜ (n ≤ length (listAt 0 (now contrasts))) × RoomForPlaces (take n (listAt 0 (now contrasts))) (listAt 0 (now printed)) (listAt 0 (now faint)) ⌝ }
-    ensures { λ r. ⌜ SplitByContrast p (take n (listAt 0 (now (contrasts .entry)))) (listAt 0 (now (printed .entry))) (listAt 0 (now (faint .entry)))
-        (listAt 0 (now (printed .exit))) (listAt 0 (now (faint .exit))) (r .printed) (r .faint)
-        × Kept (now (contrasts .entry)) (now (contrasts .exit)) × Only 0 (now (printed .entry)) (now (printed .exit)) × Only 0 (now (faint .entry)) (now (faint .exit)) ⌝ }
+    requires { ⌜ (n ≤ length (listAt 0 (now values))) × RoomForPlaces (take n (listAt 0 (now values))) (listAt 0 (now chosen)) (listAt 1 (now rest)) ⌝ }
+    ensures { λ r. ⌜ SplitByContrast p (take n (listAt 0 (now (values .entry)))) (listAt 0 (now (chosen .entry))) (listAt 1 (now (rest .entry)))
+        (listAt 0 (now (chosen .exit))) (listAt 1 (now (rest .exit))) (r .printed) (r .faint)
+        × Kept (now (values .entry)) (now (values .exit)) × Only 0 (now (chosen .entry)) (now (chosen .exit)) × Only 1 (now (rest .entry)) (now (rest .exit)) ⌝ }
 {
-    let contrasts = &mut contrasts[0][..];
-    split_of(p, n, contrasts, printed[0], faint[0])
+    let contrasts = &mut values[0][..];
+    split_of(p, n, contrasts, chosen[0], rest[1])
 }

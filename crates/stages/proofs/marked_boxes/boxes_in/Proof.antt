@@ -41,7 +41,7 @@ find-requires c κs = boxes-ready (c .before .before .before .limits-of .ensures
 returns : tie.Need-returns
 returns c =
     let s = c .before .before .before .before .before .before .before in
-    (boxes-sent (c .before .before .before .before .limits-of .ensures) (sent (s .args .boxes .now) 0 _ (c .find .kept .1 .1 .1 .1 .0)) (sent (s .args .marks .now) 0 _ (c .find .kept .1 .1 .1 .1 .1 .0)) (sent (s .args .coverages .now) 0 _ (c .find .kept .1 .1 .1 .1 .1 .1 .0)) (c .find .ensures), only (s .args .boxes .now) 0 _ (c .find .kept .1 .1 .1 .1 .0), only (s .args .marks .now) 0 _ (c .find .kept .1 .1 .1 .1 .1 .0), only (s .args .coverages .now) 0 _ (c .find .kept .1 .1 .1 .1 .1 .1 .0))
+    (boxes-sent (c .before .before .before .before .limits-of .ensures) (sent (s .args .rects .now) 1 _ (c .find .kept .1 .1 .1 .1 .0)) (sent (s .args .tags .now) 1 _ (c .find .kept .1 .1 .1 .1 .1 .0)) (sent (s .args .values .now) 2 _ (c .find .kept .1 .1 .1 .1 .1 .1 .0)) (c .find .ensures), only (s .args .rects .now) 1 _ (c .find .kept .1 .1 .1 .1 .0), only (s .args .tags .now) 1 _ (c .find .kept .1 .1 .1 .1 .1 .0), only (s .args .values .now) 2 _ (c .find .kept .1 .1 .1 .1 .1 .1 .0))
 
 pub boxes-in-spec : {M : Type 1} → statement M
 boxes-in-spec =

@@ -84,7 +84,7 @@ grids-of-requires c κs = search needs
 returns : tie.Need-returns
 returns c =
     let s = c .before .before .before .before .before .before .before .before .before .before in
-    (grids-sent (sent (s .args .members .now) 2 _ (c .grids-of .kept .1 .1 .1 .1 .0)) (sent (s .args .ends .now) 2 _ (c .grids-of .kept .1 .1 .1 .1 .1 .0)) (sent (s .args .reading .now) 0 _ (c .grids-of .kept .1 .1 .1 .1 .1 .1 .0)) (sent (s .args .numbers .now) 1 _ (c .grids-of .kept .1 .1 .1 .1 .1 .1 .1 .0)) (sent (s .args .box-parents .now) 0 _ (c .grids-of .kept .1 .1 .1 .1 .1 .1 .1 .1 .0)) (sent (s .args .box-order .now) 0 _ (c .grids-of .kept .1 .1 .1 .1 .1 .1 .1 .1 .1 .0)) (sent (s .args .box-keys .now) 0 _ (c .grids-of .kept .1 .1 .1 .1 .1 .1 .1 .1 .1 .1 .0)) (c .grids-of .ensures), kept (s .args .boxes .now) 0 _ refl, only (s .args .members .now) 2 _ (c .grids-of .kept .1 .1 .1 .1 .0), only (s .args .ends .now) 2 _ (c .grids-of .kept .1 .1 .1 .1 .1 .0), only (s .args .reading .now) 0 _ (c .grids-of .kept .1 .1 .1 .1 .1 .1 .0), only (s .args .numbers .now) 1 _ (c .grids-of .kept .1 .1 .1 .1 .1 .1 .1 .0), only (s .args .box-parents .now) 0 _ (c .grids-of .kept .1 .1 .1 .1 .1 .1 .1 .1 .0), only (s .args .box-order .now) 0 _ (c .grids-of .kept .1 .1 .1 .1 .1 .1 .1 .1 .1 .0), only (s .args .box-keys .now) 0 _ (c .grids-of .kept .1 .1 .1 .1 .1 .1 .1 .1 .1 .1 .0))
+    (grids-sent (sent (s .args .members .now) 2 _ (c .grids-of .kept .1 .1 .1 .1 .0)) (sent (s .args .ends .now) 2 _ (c .grids-of .kept .1 .1 .1 .1 .1 .0)) (sent (s .args .chosen .now) 1 _ (c .grids-of .kept .1 .1 .1 .1 .1 .1 .0)) (sent (s .args .numbers .now) 1 _ (c .grids-of .kept .1 .1 .1 .1 .1 .1 .1 .0)) (sent (s .args .parents .now) 1 _ (c .grids-of .kept .1 .1 .1 .1 .1 .1 .1 .1 .0)) (sent (s .args .order .now) 1 _ (c .grids-of .kept .1 .1 .1 .1 .1 .1 .1 .1 .1 .0)) (sent (s .args .box-keys .now) 0 _ (c .grids-of .kept .1 .1 .1 .1 .1 .1 .1 .1 .1 .1 .0)) (c .grids-of .ensures), kept (s .args .rects .now) 1 _ refl, only (s .args .members .now) 2 _ (c .grids-of .kept .1 .1 .1 .1 .0), only (s .args .ends .now) 2 _ (c .grids-of .kept .1 .1 .1 .1 .1 .0), only (s .args .chosen .now) 1 _ (c .grids-of .kept .1 .1 .1 .1 .1 .1 .0), only (s .args .numbers .now) 1 _ (c .grids-of .kept .1 .1 .1 .1 .1 .1 .1 .0), only (s .args .parents .now) 1 _ (c .grids-of .kept .1 .1 .1 .1 .1 .1 .1 .1 .0), only (s .args .order .now) 1 _ (c .grids-of .kept .1 .1 .1 .1 .1 .1 .1 .1 .1 .0), only (s .args .box-keys .now) 0 _ (c .grids-of .kept .1 .1 .1 .1 .1 .1 .1 .1 .1 .1 .0))
 
 pub grids-in-spec : {M : Type 1} → statement M
 grids-in-spec =

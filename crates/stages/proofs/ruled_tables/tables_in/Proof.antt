@@ -147,7 +147,7 @@ tables-of-requires c κs = search needs
 returns : tie.Need-returns
 returns c =
     let s = c .before .before .before .before .before .before .before .before .before .before .before .before .before .before .before .before .before .before .before in
-    (tables-sent (sent (s .args .members .now) 1 _ (c .tables-of .kept .1 .1 .1 .1 .1 .1 .1 .0)) (sent (s .args .ends .now) 1 _ (c .tables-of .kept .1 .1 .1 .1 .1 .1 .1 .1 .0)) (sent (s .args .numbers .now) 0 _ (c .tables-of .kept .1 .1 .1 .1 .1 .1 .1 .1 .1 .0)) (sent (s .args .bounds .now) 0 _ (c .tables-of .kept .1 .1 .1 .1 .1 .1 .1 .1 .1 .1 .0)) (sent (s .args .rows .now) 0 _ (c .tables-of .kept .1 .1 .1 .1 .1 .1 .1 .1 .1 .1 .1 .0)) (sent (s .args .columns .now) 0 _ (c .tables-of .kept .1 .1 .1 .1 .1 .1 .1 .1 .1 .1 .1 .1 .0)) (sent (s .args .rulings .now) 0 _ (c .tables-of .kept .1 .1 .1 .1 .1 .1 .1 .1 .1 .1 .1 .1 .1 .0)) (sent (s .args .shares .now) 0 _ (c .tables-of .kept .1 .1 .1 .1 .1 .1 .1 .1 .1 .1 .1 .1 .1 .1 .0)) (sent (s .args .free .now) 0 _ (c .tables-of .kept .1 .1 .1 .1 .1 .1 .1 .1 .1 .1 .1 .1 .1 .1 .1 .0)) (sent (s .args .parents .now) 0 _ (c .tables-of .kept .1 .1 .1 .1 .1 .1 .1 .1 .1 .1 .1 .1 .1 .1 .1 .1 .0)) (sent (s .args .order .now) 0 _ (c .tables-of .kept .1 .1 .1 .1 .1 .1 .1 .1 .1 .1 .1 .1 .1 .1 .1 .1 .1 .0)) (sent (s .args .keys .now) 0 _ (c .tables-of .kept .1 .1 .1 .1 .1 .1 .1 .1 .1 .1 .1 .1 .1 .1 .1 .1 .1 .1 .0)) (c .tables-of .ensures), kept (s .args .rects .now) 0 _ refl, kept (s .args .directions .now) 0 _ refl, kept (s .args .printed .now) 0 _ refl, only (s .args .members .now) 1 _ (c .tables-of .kept .1 .1 .1 .1 .1 .1 .1 .0), only (s .args .ends .now) 1 _ (c .tables-of .kept .1 .1 .1 .1 .1 .1 .1 .1 .0), only (s .args .numbers .now) 0 _ (c .tables-of .kept .1 .1 .1 .1 .1 .1 .1 .1 .1 .0), only (s .args .bounds .now) 0 _ (c .tables-of .kept .1 .1 .1 .1 .1 .1 .1 .1 .1 .1 .0), only (s .args .rows .now) 0 _ (c .tables-of .kept .1 .1 .1 .1 .1 .1 .1 .1 .1 .1 .1 .0), only (s .args .columns .now) 0 _ (c .tables-of .kept .1 .1 .1 .1 .1 .1 .1 .1 .1 .1 .1 .1 .0), only (s .args .rulings .now) 0 _ (c .tables-of .kept .1 .1 .1 .1 .1 .1 .1 .1 .1 .1 .1 .1 .1 .0), only (s .args .shares .now) 0 _ (c .tables-of .kept .1 .1 .1 .1 .1 .1 .1 .1 .1 .1 .1 .1 .1 .1 .0), only (s .args .free .now) 0 _ (c .tables-of .kept .1 .1 .1 .1 .1 .1 .1 .1 .1 .1 .1 .1 .1 .1 .1 .0), only (s .args .parents .now) 0 _ (c .tables-of .kept .1 .1 .1 .1 .1 .1 .1 .1 .1 .1 .1 .1 .1 .1 .1 .1 .0), only (s .args .order .now) 0 _ (c .tables-of .kept .1 .1 .1 .1 .1 .1 .1 .1 .1 .1 .1 .1 .1 .1 .1 .1 .1 .0), only (s .args .keys .now) 0 _ (c .tables-of .kept .1 .1 .1 .1 .1 .1 .1 .1 .1 .1 .1 .1 .1 .1 .1 .1 .1 .1 .0))
+    (tables-sent (sent (s .args .members .now) 1 _ (c .tables-of .kept .1 .1 .1 .1 .1 .1 .1 .0)) (sent (s .args .ends .now) 1 _ (c .tables-of .kept .1 .1 .1 .1 .1 .1 .1 .1 .0)) (sent (s .args .numbers .now) 0 _ (c .tables-of .kept .1 .1 .1 .1 .1 .1 .1 .1 .1 .0)) (sent (s .args .bounds .now) 0 _ (c .tables-of .kept .1 .1 .1 .1 .1 .1 .1 .1 .1 .1 .0)) (sent (s .args .rows .now) 0 _ (c .tables-of .kept .1 .1 .1 .1 .1 .1 .1 .1 .1 .1 .1 .0)) (sent (s .args .columns .now) 0 _ (c .tables-of .kept .1 .1 .1 .1 .1 .1 .1 .1 .1 .1 .1 .1 .0)) (sent (s .args .rulings .now) 0 _ (c .tables-of .kept .1 .1 .1 .1 .1 .1 .1 .1 .1 .1 .1 .1 .1 .0)) (sent (s .args .values .now) 1 _ (c .tables-of .kept .1 .1 .1 .1 .1 .1 .1 .1 .1 .1 .1 .1 .1 .1 .0)) (sent (s .args .rest .now) 0 _ (c .tables-of .kept .1 .1 .1 .1 .1 .1 .1 .1 .1 .1 .1 .1 .1 .1 .1 .0)) (sent (s .args .parents .now) 0 _ (c .tables-of .kept .1 .1 .1 .1 .1 .1 .1 .1 .1 .1 .1 .1 .1 .1 .1 .1 .0)) (sent (s .args .order .now) 0 _ (c .tables-of .kept .1 .1 .1 .1 .1 .1 .1 .1 .1 .1 .1 .1 .1 .1 .1 .1 .1 .0)) (sent (s .args .keys .now) 0 _ (c .tables-of .kept .1 .1 .1 .1 .1 .1 .1 .1 .1 .1 .1 .1 .1 .1 .1 .1 .1 .1 .0)) (c .tables-of .ensures), kept (s .args .rects .now) 0 _ refl, kept (s .args .tags .now) 0 _ refl, kept (s .args .chosen .now) 0 _ refl, only (s .args .members .now) 1 _ (c .tables-of .kept .1 .1 .1 .1 .1 .1 .1 .0), only (s .args .ends .now) 1 _ (c .tables-of .kept .1 .1 .1 .1 .1 .1 .1 .1 .0), only (s .args .numbers .now) 0 _ (c .tables-of .kept .1 .1 .1 .1 .1 .1 .1 .1 .1 .0), only (s .args .bounds .now) 0 _ (c .tables-of .kept .1 .1 .1 .1 .1 .1 .1 .1 .1 .1 .0), only (s .args .rows .now) 0 _ (c .tables-of .kept .1 .1 .1 .1 .1 .1 .1 .1 .1 .1 .1 .0), only (s .args .columns .now) 0 _ (c .tables-of .kept .1 .1 .1 .1 .1 .1 .1 .1 .1 .1 .1 .1 .0), only (s .args .rulings .now) 0 _ (c .tables-of .kept .1 .1 .1 .1 .1 .1 .1 .1 .1 .1 .1 .1 .1 .0), only (s .args .values .now) 1 _ (c .tables-of .kept .1 .1 .1 .1 .1 .1 .1 .1 .1 .1 .1 .1 .1 .1 .0), only (s .args .rest .now) 0 _ (c .tables-of .kept .1 .1 .1 .1 .1 .1 .1 .1 .1 .1 .1 .1 .1 .1 .1 .0), only (s .args .parents .now) 0 _ (c .tables-of .kept .1 .1 .1 .1 .1 .1 .1 .1 .1 .1 .1 .1 .1 .1 .1 .1 .0), only (s .args .order .now) 0 _ (c .tables-of .kept .1 .1 .1 .1 .1 .1 .1 .1 .1 .1 .1 .1 .1 .1 .1 .1 .1 .0), only (s .args .keys .now) 0 _ (c .tables-of .kept .1 .1 .1 .1 .1 .1 .1 .1 .1 .1 .1 .1 .1 .1 .1 .1 .1 .1 .0))
 
 pub tables-in-spec : {M : Type 1} → statement M
 tables-in-spec =

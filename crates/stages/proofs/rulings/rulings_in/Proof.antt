@@ -118,7 +118,7 @@ rulings-requires c κs = search needs
 returns : tie.Need-returns
 returns c =
     let s = c .before .before .before .before .before .before .before .before .before .before .before .before .before .before .before .before in
-    (made-sent (c .before .before .before .before .before .before .before .before .before .before .before .before .before .before .limit-u32 .ensures) (c .before .before .before .before .before .before .before .before .before .before .before .before .before .limit-u322 .ensures) (sent (s .args .rects .now) 0 _ (c .rulings .kept .1 .1 .1 .1 .1 .1 .0)) (sent (s .args .directions .now) 0 _ (c .rulings .kept .1 .1 .1 .1 .1 .1 .1 .0)) (sent (s .args .contrasts .now) 0 _ (c .rulings .kept .1 .1 .1 .1 .1 .1 .1 .1 .0)) (sent (s .args .members .now) 0 _ (c .rulings .kept .1 .1 .1 .1 .1 .1 .1 .1 .1 .0)) (sent (s .args .ends .now) 0 _ (c .rulings .kept .1 .1 .1 .1 .1 .1 .1 .1 .1 .1 .0)) (c .rulings .ensures), kept (s .args .levelled .now) 0 _ refl, only (s .args .rects .now) 0 _ (c .rulings .kept .1 .1 .1 .1 .1 .1 .0), only (s .args .directions .now) 0 _ (c .rulings .kept .1 .1 .1 .1 .1 .1 .1 .0), only (s .args .contrasts .now) 0 _ (c .rulings .kept .1 .1 .1 .1 .1 .1 .1 .1 .0), only (s .args .members .now) 0 _ (c .rulings .kept .1 .1 .1 .1 .1 .1 .1 .1 .1 .0), only (s .args .ends .now) 0 _ (c .rulings .kept .1 .1 .1 .1 .1 .1 .1 .1 .1 .1 .0), only (s .args .parents .now) 0 _ (c .rulings .kept .1 .1 .1 .1 .1 .1 .1 .1 .1 .1 .1 .0), only (s .args .listed .now) 0 _ (c .rulings .kept .1 .1 .1 .1 .1 .1 .1 .1 .1 .1 .1 .1 .0), only (s .args .listed-ends .now) 0 _ (c .rulings .kept .1 .1 .1 .1 .1 .1 .1 .1 .1 .1 .1 .1 .1 .0), only (s .args .order .now) 0 _ (c .rulings .kept .1 .1 .1 .1 .1 .1 .1 .1 .1 .1 .1 .1 .1 .1 .0), only (s .args .keys .now) 0 _ (c .rulings .kept .1 .1 .1 .1 .1 .1 .1 .1 .1 .1 .1 .1 .1 .1 .1 .0))
+    (made-sent (c .before .before .before .before .before .before .before .before .before .before .before .before .before .before .limit-u32 .ensures) (c .before .before .before .before .before .before .before .before .before .before .before .before .before .limit-u322 .ensures) (sent (s .args .rects .now) 0 _ (c .rulings .kept .1 .1 .1 .1 .1 .1 .0)) (sent (s .args .tags .now) 0 _ (c .rulings .kept .1 .1 .1 .1 .1 .1 .1 .0)) (sent (s .args .values .now) 0 _ (c .rulings .kept .1 .1 .1 .1 .1 .1 .1 .1 .0)) (sent (s .args .members .now) 0 _ (c .rulings .kept .1 .1 .1 .1 .1 .1 .1 .1 .1 .0)) (sent (s .args .ends .now) 0 _ (c .rulings .kept .1 .1 .1 .1 .1 .1 .1 .1 .1 .1 .0)) (c .rulings .ensures), kept (s .args .levelled .now) 0 _ refl, only (s .args .rects .now) 0 _ (c .rulings .kept .1 .1 .1 .1 .1 .1 .0), only (s .args .tags .now) 0 _ (c .rulings .kept .1 .1 .1 .1 .1 .1 .1 .0), only (s .args .values .now) 0 _ (c .rulings .kept .1 .1 .1 .1 .1 .1 .1 .1 .0), only (s .args .members .now) 0 _ (c .rulings .kept .1 .1 .1 .1 .1 .1 .1 .1 .1 .0), only (s .args .ends .now) 0 _ (c .rulings .kept .1 .1 .1 .1 .1 .1 .1 .1 .1 .1 .0), only (s .args .parents .now) 0 _ (c .rulings .kept .1 .1 .1 .1 .1 .1 .1 .1 .1 .1 .1 .0), only (s .args .listed .now) 0 _ (c .rulings .kept .1 .1 .1 .1 .1 .1 .1 .1 .1 .1 .1 .1 .0), only (s .args .listed-ends .now) 0 _ (c .rulings .kept .1 .1 .1 .1 .1 .1 .1 .1 .1 .1 .1 .1 .1 .0), only (s .args .order .now) 0 _ (c .rulings .kept .1 .1 .1 .1 .1 .1 .1 .1 .1 .1 .1 .1 .1 .1 .0), only (s .args .keys .now) 0 _ (c .rulings .kept .1 .1 .1 .1 .1 .1 .1 .1 .1 .1 .1 .1 .1 .1 .1 .0))
 
 pub rulings-in-spec : {M : Type 1} → statement M
 rulings-in-spec =

@@ -39,7 +39,7 @@ split-of-requires c κs = search needs
 returns : tie.Need-returns
 returns c =
     let s = c .before .before .before .before .before in
-    (split-sent (sent (s .args .printed .now) 0 _ (c .split-of .kept .1 .1 .1 .0)) (sent (s .args .faint .now) 0 _ (c .split-of .kept .1 .1 .1 .1 .0)) (c .split-of .ensures), kept (s .args .contrasts .now) 0 _ refl, only (s .args .printed .now) 0 _ (c .split-of .kept .1 .1 .1 .0), only (s .args .faint .now) 0 _ (c .split-of .kept .1 .1 .1 .1 .0))
+    (split-sent (sent (s .args .chosen .now) 0 _ (c .split-of .kept .1 .1 .1 .0)) (sent (s .args .rest .now) 1 _ (c .split-of .kept .1 .1 .1 .1 .0)) (c .split-of .ensures), kept (s .args .values .now) 0 _ refl, only (s .args .chosen .now) 0 _ (c .split-of .kept .1 .1 .1 .0), only (s .args .rest .now) 1 _ (c .split-of .kept .1 .1 .1 .1 .0))
 
 pub split-in-spec : {M : Type 1} → statement M
 split-in-spec =

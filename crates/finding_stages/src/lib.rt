@@ -1,0 +1,4 @@
+// The stages of the findings over bundles of lent lists: each lends its lists to the core that does the work.
+pub mod keys;
+pub mod places;
+pub mod writes;

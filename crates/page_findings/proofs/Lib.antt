@@ -1,2 +1,0 @@
--- Why the findings over bundles are those of the front parts.
-mod Sent
