@@ -1,0 +1,5 @@
+-- Why `detect` keeps its promise.
+mod Kept
+mod Fits
+mod Finds
+mod Answering
