@@ -342,6 +342,210 @@ struct lanegravel_finding_at_answer lanegravel_finding_at(
     const double *second_llrs, size_t second_llrs_count,
     const double *lengths, size_t lengths_count, size_t count, size_t i);
 
+/* A page as one call. What it answers: the number of the first question that is missed, 0 where the
+ * page is accepted; the six counts of the page; the number of findings; and how many sets of printed
+ * rulings and of boxes are listed, and how many printed rulings are free. There are as many sets of
+ * pieces as rulings. Where the number is not 0, every count is 0. */
+struct lanegravel_detect_answer {
+    uint32_t number;
+    size_t rulings;
+    size_t printed;
+    size_t faint;
+    size_t tables;
+    size_t boxes;
+    size_t grids;
+    size_t findings;
+    size_t printed_sets;
+    size_t free;
+    size_t box_sets;
+};
+
+/* A lent list: where its entries are, and how many. Where the count is 0, entries may be null. */
+struct lanegravel_u8_list {
+    uint8_t *entries;
+    size_t count;
+};
+struct lanegravel_u32_list {
+    uint32_t *entries;
+    size_t count;
+};
+struct lanegravel_u64_list {
+    uint64_t *entries;
+    size_t count;
+};
+struct lanegravel_f64_list {
+    double *entries;
+    size_t count;
+};
+
+/* The lists that a page is read into, for n pieces and m glyph boxes. Behind each list stands the
+ * least count that it needs (the levelled raster must have exactly that), then what it holds from its
+ * front after an accepted page; an index is a place from 0. No two lists overlap. */
+struct lanegravel_lists {
+    struct lanegravel_u8_list levelled; /* width * height: the levelled raster, row by row */
+
+    /* rulings, by y0, x0, y1, x1, then by smallest piece; entry k is about ruling k */
+    struct lanegravel_u32_list rects;      /* 4n: x0, y0, x1, y1 of each, both ends inside */
+    struct lanegravel_u32_list directions; /* n: 0 horizontal, 1 vertical */
+    struct lanegravel_f64_list contrasts;  /* n: the paper beside it less the darkest across it */
+    struct lanegravel_u32_list printed;    /* n: rulings of at least rule_min_contrast, ascending */
+    struct lanegravel_u32_list faint;      /* n: the other rulings, ascending */
+
+    /* tables, by the smallest of their rulings; entry k is about table k */
+    struct lanegravel_u32_list bounds;  /* 4n: the smallest rectangle around it, levelled */
+    struct lanegravel_u32_list rows;    /* n: its lines across, minus one */
+    struct lanegravel_u32_list columns; /* n: its lines down, minus one */
+    struct lanegravel_u32_list rulings; /* n: how many rulings it has */
+    struct lanegravel_f64_list shares;  /* n: joined ends over all ends */
+    struct lanegravel_u32_list free;    /* n: places in printed that are in no table, set by set */
+
+    /* boxes, in the order of their glyph boxes; entry k is about box k */
+    struct lanegravel_u32_list boxes;     /* 4m: its frame, levelled */
+    struct lanegravel_u32_list marks;     /* m: 1 ticked, 0 not */
+    struct lanegravel_f64_list coverages; /* m: its edge coverage */
+    struct lanegravel_u32_list reading;   /* m: as box_members, each set by y0, then x0, then index */
+
+    /* the closed sets: the members of set after set, ascending in each, and where each set ends;
+     * lanegravel_members_of gives the members of one */
+    struct lanegravel_u32_list piece_members;   /* n: pieces; set k is that of ruling k */
+    struct lanegravel_u32_list printed_members; /* n: places in printed; sets by smallest member */
+    struct lanegravel_u32_list box_members;     /* m: boxes; sets by smallest member */
+    struct lanegravel_u32_list piece_ends;      /* n: one a ruling */
+    struct lanegravel_u32_list printed_ends;    /* n: one a set, printed_sets in all */
+    struct lanegravel_u32_list box_ends;        /* m: one a set, box_sets in all */
+    struct lanegravel_u32_list table_numbers;   /* n: the set of each table among the printed sets */
+    struct lanegravel_u32_list grid_numbers;    /* m: the set of each grid among the box sets */
+
+    /* findings, by y0, x0 and kind; entry k is about finding k, as lanegravel_finding_at reads it */
+    struct lanegravel_u32_list page;              /* 4(n + m): its rectangle on the page */
+    struct lanegravel_u32_list kinds;             /* n + m: 16, 17, 18 or 19 */
+    struct lanegravel_u32_list fact_a;            /* n + m: a */
+    struct lanegravel_u32_list fact_b;            /* n + m: b */
+    struct lanegravel_u32_list fact_c;            /* n + m: c */
+    struct lanegravel_f64_list log_odds;          /* n + m */
+    struct lanegravel_f64_list first_values;      /* n + m */
+    struct lanegravel_f64_list first_thresholds;  /* n + m */
+    struct lanegravel_f64_list first_llrs;        /* n + m */
+    struct lanegravel_f64_list second_values;     /* n + m */
+    struct lanegravel_f64_list second_thresholds; /* n + m */
+    struct lanegravel_f64_list second_llrs;       /* n + m */
+    struct lanegravel_f64_list lengths;           /* n + m */
+
+    /* work lists: of free content after an accepted page; no answer depends on what they held */
+    struct lanegravel_u32_list parents;     /* n */
+    struct lanegravel_u32_list listed;      /* n */
+    struct lanegravel_u32_list listed_ends; /* n */
+    struct lanegravel_u32_list order;       /* n */
+    struct lanegravel_u64_list keys;        /* n */
+    struct lanegravel_u32_list box_parents; /* m */
+    struct lanegravel_u32_list box_order;   /* m */
+    struct lanegravel_u64_list box_keys;    /* m */
+};
+
+/* Reads a page: levels it, joins its pieces to rulings, parts these into printed and faint, finds the
+ * tables among the printed, the boxes among the glyph boxes and the grids among the boxes, and makes
+ * the findings. Each step is that of the call about it alone, on the same input: lanegravel_level_gray,
+ * lanegravel_segments, lanegravel_tables (of the printed rulings), lanegravel_boxes,
+ * lanegravel_box_grids. The questions, in order:
+ *    1  page and levelled sides 1 to 8,192, the page no larger than the picture either way
+ *    2  dpi not 0; xheight finite, above 0, at most 4,096
+ *    3  gray page_width * page_height bytes, ink width * height bytes, shear page_width entries,
+ *       shear_x height entries
+ *    4  shear entries 0 to height - page_height, shear_x entries 0 to width - page_width
+ *    5  at most 4,096 pieces and 16,384 glyph boxes, four numbers each
+ *    6  every piece and every glyph box ordered and inside the picture
+ *    7 to 11  the settings, as lanegravel_validate has them
+ *   12  llr_clip and group_cap, as lanegravel_validate_fusion has them
+ *   13  min_free_rules at least 1
+ *   14  every list has the room that struct lanegravel_lists says
+ *   15  every evidence number is finite
+ * A page that misses one of 1 to 14 leaves every list as it was, the work lists too. One that misses
+ * 15 has the levelled raster written, and all other lists are of free content. An accepted page writes
+ * each list from the front; places past the last answer keep their content.
+ *
+ * The findings are of four kinds: each table makes one of kind 16; the free rulings, where there are at
+ * least min_free_rules, one of kind 17; each grid one of kind 18; each faint ruling that is at least
+ * fold_min_length_in long one of kind 19.
+ *
+ * Each parameter from levelled on is the first of so many lists, one behind the other in memory: two
+ * for rects (rulings, boxes), tags (directions, marks), chosen (printed, reading), rest (free, faint),
+ * numbers (tables, grids), parents and order (pieces, glyph boxes), three for values (contrasts, shares,
+ * coverages), members and ends (pieces, printed rulings, boxes), four for facts (kinds, a, b, c), eight
+ * for scores (log_odds to lengths in the order above), and one
+ * for every other. lanegravel_detect_into hands them over by name. */
+struct lanegravel_detect_answer lanegravel_detect(
+    size_t page_width, size_t page_height, size_t width, size_t height, uint16_t dpi, double xheight,
+    struct lanegravel_rulings_params p, struct lanegravel_fusion_params f,
+    const uint8_t *gray, size_t gray_count, const uint8_t *ink, size_t ink_count,
+    const int32_t *shear, size_t shear_count, const int32_t *shear_x, size_t shear_x_count,
+    const uint32_t *pieces, size_t pieces_count, const uint32_t *glyphs, size_t glyphs_count,
+    struct lanegravel_u8_list *levelled, struct lanegravel_u32_list *rects,
+    struct lanegravel_u32_list *tags, struct lanegravel_f64_list *values,
+    struct lanegravel_u32_list *chosen, struct lanegravel_u32_list *rest,
+    struct lanegravel_u32_list *members, struct lanegravel_u32_list *ends,
+    struct lanegravel_u32_list *numbers, struct lanegravel_u32_list *bounds,
+    struct lanegravel_u32_list *rows, struct lanegravel_u32_list *columns,
+    struct lanegravel_u32_list *rulings, struct lanegravel_u32_list *page,
+    struct lanegravel_u32_list *facts, struct lanegravel_f64_list *scores,
+    struct lanegravel_u32_list *parents, struct lanegravel_u32_list *order,
+    struct lanegravel_u32_list *listed, struct lanegravel_u32_list *listed_ends,
+    struct lanegravel_u64_list *keys, struct lanegravel_u64_list *box_keys);
+
+/* The same, over lists by name. The struct itself is not changed. */
+static inline struct lanegravel_detect_answer lanegravel_detect_into(
+    size_t page_width, size_t page_height, size_t width, size_t height, uint16_t dpi, double xheight,
+    struct lanegravel_rulings_params p, struct lanegravel_fusion_params f,
+    const uint8_t *gray, size_t gray_count, const uint8_t *ink, size_t ink_count,
+    const int32_t *shear, size_t shear_count, const int32_t *shear_x, size_t shear_x_count,
+    const uint32_t *pieces, size_t pieces_count, const uint32_t *glyphs, size_t glyphs_count,
+    const struct lanegravel_lists *lists) {
+    struct lanegravel_lists l = *lists;
+    struct lanegravel_u32_list rects[2], tags[2], chosen[2], rest[2], members[3], ends[3], numbers[2];
+    struct lanegravel_u32_list facts[4], parents[2], order[2];
+    struct lanegravel_f64_list values[3], scores[8];
+    rects[0] = l.rects;
+    rects[1] = l.boxes;
+    tags[0] = l.directions;
+    tags[1] = l.marks;
+    values[0] = l.contrasts;
+    values[1] = l.shares;
+    values[2] = l.coverages;
+    chosen[0] = l.printed;
+    chosen[1] = l.reading;
+    rest[0] = l.free;
+    rest[1] = l.faint;
+    parents[0] = l.parents;
+    parents[1] = l.box_parents;
+    order[0] = l.order;
+    order[1] = l.box_order;
+    members[0] = l.piece_members;
+    members[1] = l.printed_members;
+    members[2] = l.box_members;
+    ends[0] = l.piece_ends;
+    ends[1] = l.printed_ends;
+    ends[2] = l.box_ends;
+    numbers[0] = l.table_numbers;
+    numbers[1] = l.grid_numbers;
+    facts[0] = l.kinds;
+    facts[1] = l.fact_a;
+    facts[2] = l.fact_b;
+    facts[3] = l.fact_c;
+    scores[0] = l.log_odds;
+    scores[1] = l.first_values;
+    scores[2] = l.first_thresholds;
+    scores[3] = l.first_llrs;
+    scores[4] = l.second_values;
+    scores[5] = l.second_thresholds;
+    scores[6] = l.second_llrs;
+    scores[7] = l.lengths;
+    return lanegravel_detect(page_width, page_height, width, height, dpi, xheight, p, f,
+                             gray, gray_count, ink, ink_count, shear, shear_count,
+                             shear_x, shear_x_count, pieces, pieces_count, glyphs, glyphs_count,
+                             &l.levelled, rects, tags, values, chosen, rest, members, ends, numbers,
+                             &l.bounds, &l.rows, &l.columns, &l.rulings, &l.page, facts, scores,
+                             parents, order, &l.listed, &l.listed_ends, &l.keys, &l.box_keys);
+}
+
 #ifdef __cplusplus
 }
 #endif

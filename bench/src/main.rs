@@ -3,6 +3,7 @@
 //!     bench [NAME]    a row a measurement: both medians, and ours over the Rust's
 
 mod boxes;
+mod detect;
 mod grouping;
 mod levelling;
 mod ruled_tables;
@@ -21,7 +22,8 @@ fn main() {
         .chain(levelling::MEASUREMENTS)
         .chain(rulings::MEASUREMENTS)
         .chain(ruled_tables::MEASUREMENTS)
-        .chain(boxes::MEASUREMENTS);
+        .chain(boxes::MEASUREMENTS)
+        .chain(detect::MEASUREMENTS);
     for (name, measure) in all {
         if name.contains(only.as_str()) {
             println!("| {name} | {} |", measure());

@@ -18,6 +18,27 @@ pub struct FindingLists {
     pub lengths: Vec<f64>,
 }
 
+impl FindingLists {
+    /// Room for this many findings.
+    pub fn with_room(findings: usize) -> Self {
+        FindingLists {
+            rects: vec![0; 4 * findings],
+            kinds: vec![0; findings],
+            a: vec![0; findings],
+            b: vec![0; findings],
+            c: vec![0; findings],
+            log_odds: vec![0.0; findings],
+            first_values: vec![0.0; findings],
+            first_thresholds: vec![0.0; findings],
+            first_llrs: vec![0.0; findings],
+            second_values: vec![0.0; findings],
+            second_thresholds: vec![0.0; findings],
+            second_llrs: vec![0.0; findings],
+            lengths: vec![0.0; findings],
+        }
+    }
+}
+
 /// `found` is 1 and the rest is the finding, or all is 0.
 #[repr(C)]
 #[derive(Clone, Copy, Debug, Default, PartialEq)]

@@ -6,6 +6,7 @@
 //! lists that are written overlap nothing, since Rust lends each of them once.
 
 pub mod boxes;
+pub mod detect;
 pub mod findings;
 pub mod floats;
 pub mod grids;
@@ -14,3 +15,5 @@ pub mod segments;
 pub mod sets;
 pub mod settings;
 pub mod tables;
+pub mod views;
+pub mod workspace;

@@ -59,6 +59,34 @@ pub fn sets(key: &str, members: &[u32], ends: &[u32]) -> String {
     lines
 }
 
+/// The line of a ruling: its rectangle, its direction and its contrast.
+pub fn ruling([x0, y0, x1, y1]: [u32; 4], direction: u32, contrast: f64) -> String {
+    let contrast = float(contrast);
+    format!("ruling {x0} {y0} {x1} {y1} {direction} {contrast}\n")
+}
+
+/// The line of a table: its rectangle, its rows, columns and rulings, and its joined share.
+pub fn table([x0, y0, x1, y1]: [u32; 4], facts: [u32; 3], share: f64) -> String {
+    let ([rows, columns, rulings], share) = (facts, float(share));
+    format!("table {x0} {y0} {x1} {y1} {rows} {columns} {rulings} {share}\n")
+}
+
+/// The line of a box: its frame, its mark and its edge coverage.
+pub fn marked([x0, y0, x1, y1]: [u32; 4], mark: u32, coverage: f64) -> String {
+    let coverage = float(coverage);
+    format!("box {x0} {y0} {x1} {y1} {mark} {coverage}\n")
+}
+
+/// The lines of the sets with these numbers, out of a listing.
+pub fn named_sets(key: &str, numbers: &[u32], members: &[u32], ends: &[u32]) -> String {
+    let mut lines = format!("{key}s {}\n", numbers.len());
+    for &number in numbers {
+        let set = number as usize;
+        lines += &list(key, members_of(members, ends, ends.len(), set));
+    }
+    lines
+}
+
 /// FNV-1a of 64 bits.
 fn fnv1a(bytes: &[u8]) -> u64 {
     bytes.iter().fold(0xcbf2_9ce4_8422_2325, |hash, byte| {

@@ -20,8 +20,8 @@ pub struct Kind {
     pub settings: bool,
     /// The `room` lines that may stand among them, each at most once.
     pub rooms: &'static [&'static str],
-    /// The library's answer; none while the library has no call for it.
-    pub answer: Option<fn(Fields) -> Answer>,
+    /// The library's answer.
+    pub answer: fn(Fields) -> Answer,
 }
 
 impl Kind {
@@ -71,6 +71,8 @@ pub struct Fields {
     pub raster: Vec<u8>,
     pub values: Vec<f64>,
     pub rooms: BTreeMap<String, usize>,
+    /// Whether the answer to a page lists the closed sets too; an option of the run, not a line.
+    pub sets: bool,
 }
 
 impl Fields {

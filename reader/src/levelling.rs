@@ -7,7 +7,7 @@ use crate::fields::Fields;
 
 /// The most bytes that are lent as a levelled raster: one more than any accepted page has. Lending
 /// more would change no answer.
-const MOST_BYTES: usize = 8192 * 8192 + 1;
+pub const MOST_BYTES: usize = 8192 * 8192 + 1;
 
 fn page(fields: Fields) -> Page {
     Page {

@@ -21,8 +21,6 @@ use text::{Line, Lines, show};
 pub enum Failure {
     /// The text is not of the form, from this line on.
     Malformed { line: usize, message: String },
-    /// The text is of the form, but the library has no call for it yet.
-    NotBuilt(&'static str),
     /// Reading or writing failed.
     Io(io::Error),
 }
@@ -32,7 +30,6 @@ impl Failure {
         match self {
             Failure::Io(_) => 1,
             Failure::Malformed { .. } => 2,
-            Failure::NotBuilt(_) => 3,
         }
     }
 }
@@ -41,7 +38,6 @@ impl fmt::Display for Failure {
     fn fmt(&self, out: &mut fmt::Formatter) -> fmt::Result {
         match self {
             Failure::Malformed { line, message } => write!(out, "line {line}: {message}"),
-            Failure::NotBuilt(name) => write!(out, "{name}: not built yet"),
             Failure::Io(error) => write!(out, "input or output failed: {error}"),
         }
     }
@@ -53,18 +49,19 @@ impl From<io::Error> for Failure {
     }
 }
 
-/// Answers each text of the input in turn. An answer is written whole and handed on at once, so a
-/// failure leaves the answers before it and nothing of its own.
-pub fn answer_all(input: impl BufRead, mut output: impl Write) -> Result<(), Failure> {
+/// Answers each text of the input in turn, a page with its closed sets where `sets` says so. An answer
+/// is written whole and handed on at once, so a failure leaves the answers before it and nothing of its
+/// own.
+pub fn answer_all(input: impl BufRead, mut output: impl Write, sets: bool) -> Result<(), Failure> {
     let mut lines = Lines::new(input);
     let mut kind = first_line(&mut lines)?;
     if kind.is_none() {
         return Err(lines.malformed("the input has no text"));
     }
     while let Some(asked) = kind {
-        let fields = fields::read(&mut lines, asked)?;
-        let answer = asked.answer.ok_or(Failure::NotBuilt(asked.name))?;
-        output.write_all(answer::text(&answer(fields)).as_bytes())?;
+        let mut fields = fields::read(&mut lines, asked)?;
+        fields.sets = sets;
+        output.write_all(answer::text(&(asked.answer)(fields)).as_bytes())?;
         output.flush()?;
         kind = first_line(&mut lines)?;
     }

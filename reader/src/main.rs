@@ -19,14 +19,13 @@ both. A refused text is an answer: it names the first question that was missed.
 
   --sets   in the answer to a page, list the closed sets too
 
-Answered today: calls level, segments, tables, boxes, grids, map and sum.
+Calls: level, segments, tables, boxes, grids, map and sum.
 
 Exit status:
   0  every text was answered
   1  bad arguments, or building, reading or writing failed
   2  a text is not of the form: standard error says on which line and why
-  3  a text asks for what is not built yet: standard error says what
-On 1, 2 and 3 the answers to the texts before it have been written, nothing is
+On 1 and 2 the answers to the texts before it have been written, nothing is
 written for it, and what follows it is not read.
 
 Example: 1.0 + 2.0, a float as the hex digits of its 64 bits
@@ -41,18 +40,18 @@ Example: 1.0 + 2.0, a float as the hex digits of its 64 bits
 ";
 
 fn main() -> ExitCode {
+    let mut sets = false;
     for argument in env::args_os().skip(1) {
         match argument.to_str() {
             Some("--help") => return report(help()),
-            // Only the answer to a page has more with it, and pages are not answered yet.
-            Some("--sets") => {}
+            Some("--sets") => sets = true,
             _ => {
                 eprintln!("unknown argument {argument:?}; --help says which there are");
                 return ExitCode::from(1);
             }
         }
     }
-    report(answer_all(io::stdin().lock(), io::stdout().lock()))
+    report(answer_all(io::stdin().lock(), io::stdout().lock(), sets))
 }
 
 fn help() -> Result<(), Failure> {

@@ -3,12 +3,12 @@
 use lanegravel_binding::segments::{self, Lent, Page};
 use lanegravel_binding::tables::{self, TablesLists};
 
-use crate::answer::{Answer, accepted, float, list, sets};
+use crate::answer::{Answer, accepted, list, ruling, sets, table};
 use crate::fields::Fields;
 
 /// The most records and entries that are lent: as many as any accepted page can use. Lending more
 /// would change no answer.
-const MOST_RULINGS: usize = 4096;
+pub const MOST_RULINGS: usize = 4096;
 
 pub fn segments(fields: Fields) -> Answer {
     let pieces = fields.pieces.len() / 4;
@@ -26,9 +26,8 @@ pub fn segments(fields: Fields) -> Answer {
     accepted(answer.number)?;
     let mut lines = format!("rulings {}\n", answer.count);
     let (rects, _) = lent.rects.as_chunks();
-    for (k, [x0, y0, x1, y1]) in rects.iter().take(answer.count).enumerate() {
-        let (direction, contrast) = (lent.directions[k], float(lent.contrasts[k]));
-        lines += &format!("ruling {x0} {y0} {x1} {y1} {direction} {contrast}\n");
+    for (k, rect) in rects.iter().take(answer.count).enumerate() {
+        lines += &ruling(*rect, lent.directions[k], lent.contrasts[k]);
     }
     let ends = &lent.ends[..answer.count];
     Ok(lines + &sets("pieceset", &lent.members, ends))
@@ -48,10 +47,9 @@ pub fn tables(fields: Fields) -> Answer {
     accepted(answer.number)?;
     let mut lines = format!("tables {}\n", answer.tables);
     let (bounds, _) = lent.bounds.as_chunks();
-    for (k, [x0, y0, x1, y1]) in bounds.iter().take(answer.tables).enumerate() {
-        let (rows, columns, rulings) = (lent.rows[k], lent.columns[k], lent.rulings[k]);
-        let share = float(lent.shares[k]);
-        lines += &format!("table {x0} {y0} {x1} {y1} {rows} {columns} {rulings} {share}\n");
+    for (k, rect) in bounds.iter().take(answer.tables).enumerate() {
+        let facts = [lent.rows[k], lent.columns[k], lent.rulings[k]];
+        lines += &table(*rect, facts, lent.shares[k]);
     }
     lines += &list("free", &lent.free[..answer.free]);
     let ends = &lent.ends[..answer.sets];

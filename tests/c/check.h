@@ -32,5 +32,6 @@ void test_tables(void);
 void test_boxes(void);
 void test_box_grids(void);
 void test_findings(void);
+void test_detect(void);
 
 #endif

@@ -41,6 +41,7 @@ int main(void) {
     test_boxes();
     test_box_grids();
     test_findings();
+    test_detect();
     printf("%d checks, %d failed\n", checks, failures);
     return failures != 0;
 }

@@ -3,6 +3,7 @@
 // before a call. include/lanegravel.h declares them for C.
 mod box_grids_call;
 mod boxes_call;
+mod detect_call;
 mod finding_at_call;
 mod floats;
 mod level_gray_call;

@@ -6,9 +6,8 @@ use crate::run::{call_malformed, line_malformed, malformed, page, page_with, run
 #[test]
 fn the_page_itself_is_of_the_form() {
     let (written, failure) = run(&(page().join("\n") + "\n"));
-    let failure = failure.expect("pages are not answered yet");
-    assert_eq!(failure.to_string(), "page: not built yet");
-    assert_eq!((failure.status(), &written[..]), (3, ""));
+    assert!(failure.is_none());
+    assert_eq!(written, "lanegravel-answer 1\nrefused 4\nend\n");
 }
 
 #[test]
@@ -16,8 +15,9 @@ fn any_order_of_the_lines_is_of_the_form() {
     let mut lines = page();
     lines[1..43].reverse();
     lines.insert(1, "room findings 18446744073709551615".into());
-    let (_, failure) = run(&(lines.join("\n") + "\n"));
-    assert_eq!(failure.expect("not answered yet").status(), 3);
+    let (written, failure) = run(&(lines.join("\n") + "\n"));
+    assert!(failure.is_none());
+    assert_eq!(written, "lanegravel-answer 1\nrefused 4\nend\n");
 }
 
 #[test]

@@ -3,5 +3,6 @@
 mod answers;
 mod fields;
 mod lines;
+mod pages;
 mod run;
 mod values;

@@ -5,13 +5,18 @@ use lanegravel_reader::{Failure, answer_all};
 
 /// What the reader writes, and the failure that stops it.
 pub fn run(input: &str) -> (String, Option<Failure>) {
+    run_with(input, false)
+}
+
+/// The same, with the closed sets of pages or without.
+pub fn run_with(input: &str, sets: bool) -> (String, Option<Failure>) {
     let mut output = Vec::new();
-    let failure = answer_all(input.as_bytes(), &mut output).err();
+    let failure = answer_all(input.as_bytes(), &mut output, sets).err();
     let written = String::from_utf8(output).expect("answers are ASCII");
     (written, failure)
 }
 
-/// A whole page. Its line numbers: 2 page, 3 levelled, 4 dpi, 5 xheight, 6 shear, 7 shear_x,
+/// A whole page, which misses question 4. Its line numbers: 2 page, 3 levelled, 4 dpi, 5 xheight, 6 shear, 7 shear_x,
 /// 8 pieces, 9 glyphs, 10 llr_clip, 11 group_cap, 12 gray, 13 ink, 14 to 38 the float settings,
 /// 39 to 43 the counts, 44 end.
 pub fn page() -> Vec<String> {

@@ -29,15 +29,19 @@ pub fn log_odds(random: &mut Random, count: u64) -> Tally {
     tally
 }
 
-/// `sigmoid` hands -x to exp and comes to 1 / (1 + exp), or x and comes to exp / (1 + exp). What exp
-/// answers while it is watched tells the one from the other, for zeros and the smallest x too.
 fn argument_of_sigmoid(prior: f64, llrs: &[f64], cap: f64) -> f64 {
     let evidence: Vec<Evidence> = llrs.iter().map(|&llr| evidence(llr)).collect();
     let (given, confidence) = libm::watch_exp(|| confidence_capped(prior, &evidence, cap));
-    if confidence == 1.0 / (1.0 + libm::WATCHED) {
-        -given
-    } else {
-        given
+    argument_behind(confidence, &given)
+}
+
+/// The argument of the `sigmoid` that came to this, of those that exp was given while it was watched.
+/// `sigmoid` hands -x to exp and comes to 1 / (1 + exp), or x and comes to exp / (1 + exp): so many
+/// millionths, or so many less than a million, for zeros and the smallest x too.
+pub fn argument_behind(confidence: f64, given: &[f64]) -> f64 {
+    match (confidence * 1e6).round() as usize {
+        k if k < 500_000 => -given[k - 1],
+        k => given[1_000_000 - k - 1],
     }
 }
 

@@ -160,7 +160,7 @@ fn side(random: &mut Random) -> usize {
 }
 
 /// Entries from 0 to the limit: all alike, in steps, or mixed, most often at the limits.
-fn table(random: &mut Random, length: usize, limit: usize) -> Vec<i32> {
+pub fn table(random: &mut Random, length: usize, limit: usize) -> Vec<i32> {
     let kind = random.below(4);
     let step = 1 + random.below(4) as usize;
     let one = random.below(limit as u64 + 1) as usize;

@@ -2,18 +2,23 @@
 
 pub mod aligned;
 pub mod boxes;
+pub mod detect;
 pub mod findings;
 pub mod floats;
 pub mod flood;
+pub mod forms;
 pub mod grids;
 pub mod grouping;
 pub mod layout;
 pub mod masks;
+pub mod pages;
 pub mod params;
 pub mod pieces;
 pub mod questions;
 pub mod random;
+pub mod refusals;
 pub mod replay;
+pub mod replay_detect;
 mod replay_levelling;
 mod replay_pages;
 mod replay_settings;
@@ -24,3 +29,4 @@ pub mod tables;
 pub mod tally;
 pub mod testing;
 pub mod values;
+pub mod whole;

@@ -3,15 +3,18 @@
 //!     differential [--seed N] [--count N] [--only NAME]
 //!         compare, all calls or those whose name has NAME in it; status 1 where any answer differs
 //!     differential --replay DIR
-//!         write a fixed sample of the Rust's answers
+//!     differential --replay-pages DIR
+//!         write a fixed sample of the Rust's answers: to the smaller calls, to whole pages
 
+use std::io;
 use std::path::Path;
 use std::process::ExitCode;
 
 use differential::random::Random;
 use differential::tally::Tally;
 use differential::{
-    boxes, findings, floats, grids, grouping, layout, params, replay, segments, tables,
+    boxes, detect, findings, floats, grids, grouping, layout, params, replay, replay_detect,
+    segments, tables,
 };
 
 /// One call of the library, with the number of random cases that it is tried on.
@@ -132,6 +135,16 @@ const COMPARISONS: &[Comparison] = &[
         count: 200_000,
         run: findings::finding_at,
     },
+    Comparison {
+        name: "detect",
+        count: 200_000,
+        run: detect::detect,
+    },
+    Comparison {
+        name: "detect on forms",
+        count: 500,
+        run: detect::on_forms,
+    },
 ];
 
 fn compare(seed: u64, count: Option<u64>, only: &str) -> ExitCode {
@@ -149,8 +162,8 @@ fn compare(seed: u64, count: Option<u64>, only: &str) -> ExitCode {
     }
 }
 
-fn replay(dir: &str) -> ExitCode {
-    match replay::write(Path::new(dir)) {
+fn replay(dir: &str, write: fn(&Path) -> io::Result<usize>) -> ExitCode {
+    match write(Path::new(dir)) {
         Ok(lines) => {
             println!("replay: {lines} calls written to {dir}");
             ExitCode::SUCCESS
@@ -168,13 +181,16 @@ fn main() -> ExitCode {
     while let Some(name) = arguments.next() {
         let value = arguments.next().unwrap_or_default();
         match (name.as_str(), value.parse()) {
-            ("--replay", _) if !value.is_empty() => return replay(&value),
+            ("--replay", _) if !value.is_empty() => return replay(&value, replay::write),
+            ("--replay-pages", _) if !value.is_empty() => {
+                return replay(&value, replay_detect::write);
+            }
             ("--seed", Ok(n)) => seed = n,
             ("--count", Ok(n)) => count = Some(n),
             ("--only", _) => only = value,
             _ => {
                 eprintln!(
-                    "usage: differential [--seed N] [--count N] [--only NAME] | --replay DIR"
+                    "usage: differential [--seed N] [--count N] [--only NAME] | --replay DIR | --replay-pages DIR"
                 );
                 return ExitCode::from(2);
             }

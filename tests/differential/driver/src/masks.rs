@@ -12,6 +12,13 @@ pub fn small(random: &mut Random) -> Page {
     let (width, height) = (side(random), side(random));
     let mut page = blank(width, height);
     page.xheight = random.pick(&[0.1, 1.0, 1.0, 3.0, 7.0, 10.0, 12.5, 4_096.0]);
+    scatter(random, &mut page);
+    page
+}
+
+/// A resolution, up to six glyphs, and settings at the sizes and shares of the first of them.
+pub fn scatter(random: &mut Random, page: &mut Page) {
+    let (width, height) = (page.width, page.height);
     page.dpi = random.pick(&[1, 72, 96, 300, 600, u16::MAX]);
     let first = frame(random, width, height);
     page.params = settings(random, first, page.xheight, page.dpi);
@@ -22,14 +29,13 @@ pub fn small(random: &mut Random) -> Page {
             frame(random, width, height)
         };
         let glyph = match random.below(10) {
-            0 => fill(random, &mut page, square),
+            0 => fill(random, page, square),
             1 => square,
-            2 => pixel(random, &mut page),
-            _ => hollow(random, &mut page, square),
+            2 => pixel(random, page),
+            _ => hollow(random, page, square),
         };
         page.glyphs.extend(glyph);
     }
-    page
 }
 
 /// As many glyph boxes as asked for, up to 12 pixels wide, on a picture of 128 by 128.
@@ -98,7 +104,7 @@ pub fn form(random: &mut Random, width: usize, height: usize, count: usize) -> P
     page
 }
 
-fn blank(width: usize, height: usize) -> Page {
+pub fn blank(width: usize, height: usize) -> Page {
     Page {
         width,
         height,

@@ -73,18 +73,24 @@ pub fn validate_fusion(random: &mut Random, count: u64) -> Tally {
     let ends = around_limits();
     let pairs = ends.iter().flat_map(|&a| ends.iter().map(move |&b| (a, b)));
     for (llr_clip, group_cap) in pairs.chain((0..count).map(|_| (value(random), value(random)))) {
-        let fine = [llr_clip, group_cap]
-            .iter()
-            .all(|v| v.is_finite() && (0.0..=1e6).contains(v));
-        let number = ffi::validate_fusion(FusionParams {
+        let f = FusionParams {
             llr_clip,
             group_cap,
-        });
-        tally.compare(&[if fine { 0 } else { 12 }], &[number.into()], || {
+        };
+        let expected = if fusion_met(&f) { 0 } else { 12 };
+        let number = ffi::validate_fusion(f);
+        tally.compare(&[expected], &[number.into()], || {
             hex_floats(&[llr_clip, group_cap])
         });
     }
     tally
+}
+
+/// Whether question 12 is met.
+pub fn fusion_met(f: &FusionParams) -> bool {
+    [f.llr_clip, f.group_cap]
+        .iter()
+        .all(|v| v.is_finite() && (0.0..=1e6).contains(v))
 }
 
 /// Accepted or refused as by the Rust, with the number of the first missed question.
@@ -290,5 +296,14 @@ pub fn rust(p: &RulingsParams) -> rulings::RulingsParams {
         grid_prior: p.grid_prior,
         grid_coef: p.grid_coef,
         grid_cap: p.grid_cap,
+    }
+}
+
+/// The same bounds of the log odds for the Rust.
+pub fn rust_fusion(f: &FusionParams) -> pagetriage::params::FusionParams {
+    pagetriage::params::FusionParams {
+        emit_min_confidence: 0.0,
+        llr_clip: f.llr_clip,
+        group_cap: f.group_cap,
     }
 }

@@ -51,6 +51,13 @@ pub fn small(random: &mut Random) -> Page {
     let (width, height) = (side(random), side(random));
     let mut page = picture(random, width, height);
     page.xheight = random.pick(&[0.25, 1.0, 1.0, 2.5, 4.0, 4_096.0]);
+    scatter(random, &mut page);
+    page
+}
+
+/// Merging settings, and up to twelve pieces of one kind, or of all.
+pub fn scatter(random: &mut Random, page: &mut Page) {
+    let (width, height) = (page.width, page.height);
     page.params.merge_across_xh = setting(random);
     page.params.merge_gap_xh = setting(random);
     let kind = random.below(7);
@@ -59,13 +66,12 @@ pub fn small(random: &mut Random) -> Page {
             0 => any(random, width, height),
             1 => pixel(random, width, height),
             2 => band(random, width, height),
-            3 => beside(random, &page),
-            4 => again(random, &page),
+            3 => beside(random, page),
+            4 => again(random, page),
             _ => stroke(random, width, height),
         };
         page.pieces.extend(piece);
     }
-    page
 }
 
 /// As many pieces as asked for, short strokes or pixels, on a picture of 64 by 64.
@@ -159,7 +165,7 @@ fn broken(random: &mut Random, page: &mut Page, from: u32, to: u32, at: u32, hor
 }
 
 /// A picture of random grey, with settings that every question accepts and no pieces.
-fn picture(random: &mut Random, width: usize, height: usize) -> Page {
+pub fn picture(random: &mut Random, width: usize, height: usize) -> Page {
     Page {
         width,
         height,

@@ -34,6 +34,14 @@ impl Sample {
         self.lines += 1;
     }
 
+    /// Writes the calls and the answers below `dir` and returns how many there are.
+    pub fn write(&self, dir: &Path) -> io::Result<usize> {
+        fs::create_dir_all(dir)?;
+        fs::write(dir.join("stdin"), &self.calls)?;
+        fs::write(dir.join("stdout"), &self.answers)?;
+        Ok(self.lines)
+    }
+
     fn pairwise_sum(&mut self, values: &[f64]) {
         let mut call = format!("1 {:x}", values.len());
         if !values.is_empty() {
@@ -75,10 +83,7 @@ pub fn write(dir: &Path) -> io::Result<usize> {
     levelling::add_level_gray(&mut sample, random);
     levelling::add_to_page(&mut sample, random);
     levelling::add_rect_to_page(&mut sample, random);
-    fs::create_dir_all(dir)?;
-    fs::write(dir.join("stdin"), sample.calls)?;
-    fs::write(dir.join("stdout"), sample.answers)?;
-    Ok(sample.lines)
+    sample.write(dir)
 }
 
 fn add_sums(sample: &mut Sample, random: &mut Random) {

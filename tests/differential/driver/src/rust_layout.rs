@@ -1,6 +1,7 @@
 //! The Rust's layout, by its public fields.
 
 use lanegravel_binding::boxes;
+use lanegravel_binding::detect;
 use lanegravel_binding::layout::Page;
 use pagetriage::pixel::layout::{GlyphBox, Layout, Rect};
 
@@ -32,11 +33,6 @@ pub fn with_rules(width: usize, height: usize, xheight: f64, pieces: &[u32]) -> 
 
 /// A levelled picture with its ink mask and glyph boxes, four numbers each.
 pub fn with_glyphs(page: &boxes::Page) -> Layout {
-    let glyph = |r| GlyphBox {
-        bbox: rect(r),
-        area: 0,
-        line: None,
-    };
     Layout {
         width: page.width,
         height: page.height,
@@ -46,6 +42,31 @@ pub fn with_glyphs(page: &boxes::Page) -> Layout {
         ink: page.ink.clone(),
         glyphs: page.glyphs.chunks_exact(4).map(glyph).collect(),
         ..blank()
+    }
+}
+
+/// A whole page.
+pub fn whole(page: &detect::Page) -> Layout {
+    Layout {
+        width: page.width,
+        height: page.height,
+        page_width: page.page_width,
+        page_height: page.page_height,
+        shear: page.shear.clone(),
+        shear_x: page.shear_x.clone(),
+        xheight: page.xheight,
+        ink: page.ink.clone(),
+        glyphs: page.glyphs.chunks_exact(4).map(glyph).collect(),
+        rules: page.pieces.chunks_exact(4).map(rect).collect(),
+        ..blank()
+    }
+}
+
+fn glyph(r: &[u32]) -> GlyphBox {
+    GlyphBox {
+        bbox: rect(r),
+        area: 0,
+        line: None,
     }
 }
 

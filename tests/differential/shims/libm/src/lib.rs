@@ -1,31 +1,29 @@
 //! Stands for libm, by the functions of std. Their last bits may differ from libm's, so nothing
 //! that comes out of them is compared.
 
-use std::cell::Cell;
-
-/// What `exp` answers while it is watched.
-pub const WATCHED: f64 = 3.0;
+use std::cell::RefCell;
 
 thread_local! {
-    static WATCHING: Cell<bool> = const { Cell::new(false) };
-    static GIVEN: Cell<f64> = const { Cell::new(0.0) };
+    static GIVEN: RefCell<Option<Vec<f64>>> = const { RefCell::new(None) };
 }
 
-/// What `exp` was last given in a run, and what the run came to; `exp` answers WATCHED there, whatever
-/// it is given, so that the second tells what became of its answer.
-pub fn watch_exp(run: impl FnOnce() -> f64) -> (f64, f64) {
-    WATCHING.set(true);
+/// What `exp` was given at each call of a run, and what the run came to. Its k-th answer there, from
+/// 1, is such that 1 / (1 + exp) is k millionths, whatever it is given, so that what became of an
+/// answer tells which one it was.
+pub fn watch_exp<T>(run: impl FnOnce() -> T) -> (Vec<f64>, T) {
+    GIVEN.set(Some(Vec::new()));
     let result = run();
-    WATCHING.set(false);
-    (GIVEN.get(), result)
+    (GIVEN.take().unwrap_or_default(), result)
 }
 
 pub fn exp(x: f64) -> f64 {
-    if WATCHING.get() {
-        GIVEN.set(x);
-        return WATCHED;
-    }
-    x.exp()
+    GIVEN.with_borrow_mut(|watched| match watched {
+        Some(given) => {
+            given.push(x);
+            1e6 / given.len() as f64 - 1.0
+        }
+        None => x.exp(),
+    })
 }
 
 pub fn log(x: f64) -> f64 {
