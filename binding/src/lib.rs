@@ -11,6 +11,7 @@ pub mod findings;
 pub mod floats;
 pub mod grids;
 pub mod layout;
+pub mod question;
 pub mod segments;
 pub mod sets;
 pub mod settings;
