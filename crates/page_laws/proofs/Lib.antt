@@ -1,0 +1,2 @@
+-- Why a reader may conclude it.
+pub mod Demand1
