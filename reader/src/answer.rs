@@ -1,9 +1,16 @@
 //! The answer text.
 
+use lanegravel_binding::Question;
 use lanegravel_binding::sets::members_of;
 
 /// The number of the first question that was missed.
 pub struct Refused(pub u32);
+
+impl From<Question> for Refused {
+    fn from(question: Question) -> Self {
+        Refused(question.number())
+    }
+}
 
 /// The library's answer to one text: the lines that follow `accepted`, each with its newline, or
 /// the refusal.

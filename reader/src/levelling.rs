@@ -9,15 +9,15 @@ use crate::fields::Fields;
 /// more would change no answer.
 pub const MOST_BYTES: usize = 8192 * 8192 + 1;
 
-fn page(fields: Fields) -> Page {
+fn page(fields: &Fields) -> Page<'_> {
     Page {
         page_width: fields.page.width,
         page_height: fields.page.height,
         width: fields.levelled.width,
         height: fields.levelled.height,
-        gray: fields.gray,
-        shear: fields.shear,
-        shear_x: fields.shear_x,
+        gray: &fields.gray,
+        shear: &fields.shear,
+        shear_x: &fields.shear_x,
     }
 }
 
@@ -25,15 +25,14 @@ pub fn level(fields: Fields) -> Answer {
     let asked = fields.levelled.width.saturating_mul(fields.levelled.height);
     let room = fields.room("levelled", asked);
     let mut levelled = vec![0; room.min(MOST_BYTES)];
-    accepted(layout::level_gray(&page(fields), &mut levelled))?;
+    accepted(layout::level_gray(&page(&fields), &mut levelled))?;
     Ok(raster("levelled", &levelled))
 }
 
 /// Each rectangle in turn; the first one that is refused refuses the text.
-pub fn map(mut fields: Fields) -> Answer {
-    let rects = std::mem::take(&mut fields.rects);
-    let page = page(fields);
-    let (rects, _) = rects.as_chunks();
+pub fn map(fields: Fields) -> Answer {
+    let page = page(&fields);
+    let (rects, _) = fields.rects.as_chunks();
     rects.iter().map(|rect| mapped(&page, *rect)).collect()
 }
 

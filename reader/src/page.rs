@@ -1,13 +1,9 @@
 //! The page text: everything of one page.
 
-use lanegravel_binding::detect::{DetectAnswer, Page, detect};
-use lanegravel_binding::findings::FindingAtAnswer;
-use lanegravel_binding::settings::FusionParams;
-use lanegravel_binding::workspace::{Room, Workspace};
+use lanegravel_binding::workspace::Room;
+use lanegravel_binding::{Evidence, Finding, Found, FusionParams, Page, Workspace};
 
-use crate::answer::{
-    Answer, accepted, float, list, marked, named_sets, raster, ruling, sets, table,
-};
+use crate::answer::{Answer, float, list, marked, named_sets, raster, ruling, sets, table};
 use crate::boxes::MOST_BOXES;
 use crate::fields::{Fields, Kind};
 use crate::levelling::MOST_BYTES;
@@ -44,15 +40,13 @@ pub const PAGE: Kind = Kind {
 
 fn page(fields: Fields) -> Answer {
     let mut lent = Workspace::with_room(&room(&fields));
-    let with_sets = fields.sets;
-    let answer = detect(&given(fields), &mut lent);
-    accepted(answer.number)?;
-    let mut lines = raster("levelled", &lent.levelled);
-    lines += &ruling_lines(&lent, &answer);
-    lines += &box_lines(&lent, &answer);
-    lines += &finding_lines(&lent, &answer);
-    if with_sets {
-        lines += &set_lines(&lent, &answer);
+    let found = lent.detect_as_lent(&given(&fields))?;
+    let mut lines = raster("levelled", found.levelled());
+    lines += &ruling_lines(found);
+    lines += &box_lines(found);
+    lines += &finding_lines(found);
+    if fields.sets {
+        lines += &set_lines(found);
     }
     Ok(lines)
 }
@@ -74,7 +68,7 @@ fn room(fields: &Fields) -> Room {
     }
 }
 
-fn given(fields: Fields) -> Page {
+fn given(fields: &Fields) -> Page<'_> {
     Page {
         page_width: fields.page.width,
         page_height: fields.page.height,
@@ -87,88 +81,100 @@ fn given(fields: Fields) -> Page {
             llr_clip: fields.llr_clip,
             group_cap: fields.group_cap,
         },
-        gray: fields.gray,
-        ink: fields.ink,
-        shear: fields.shear,
-        shear_x: fields.shear_x,
-        pieces: fields.pieces,
-        glyphs: fields.glyphs,
+        gray: &fields.gray,
+        ink: &fields.ink,
+        shear: &fields.shear,
+        shear_x: &fields.shear_x,
+        pieces: &fields.pieces,
+        glyphs: &fields.glyphs,
     }
 }
 
 /// Rulings, how many are printed and faint, tables, and the free list.
-fn ruling_lines(lent: &Workspace, answer: &DetectAnswer) -> String {
-    let mut lines = format!("rulings {}\n", answer.rulings);
-    for r in lent.rulings(answer) {
-        lines += &ruling(r.rect, r.direction, r.contrast);
+fn ruling_lines(found: Found) -> String {
+    let mut lines = format!("rulings {}\n", found.rulings().len());
+    for r in found.rulings() {
+        lines += &ruling(r.rect, r.direction.number(), r.contrast);
     }
-    lines += &format!("printed {}\nfaint {}\n", answer.printed, answer.faint);
-    lines += &format!("tables {}\n", answer.tables);
-    for t in lent.tables(answer) {
+    let (printed, faint) = (found.printed().len(), found.faint().len());
+    lines += &format!("printed {printed}\nfaint {faint}\n");
+    lines += &format!("tables {}\n", found.tables().len());
+    for t in found.tables() {
         lines += &table(t.rect, [t.rows, t.columns, t.rulings], t.share);
     }
-    lines + &list("free", lent.free(answer))
+    lines + &list("free", found.free())
 }
 
 /// Boxes and grids.
-fn box_lines(lent: &Workspace, answer: &DetectAnswer) -> String {
-    let mut lines = format!("boxes {}\n", answer.boxes);
-    for b in lent.boxes(answer) {
-        lines += &marked(b.rect, b.mark, b.coverage);
+fn box_lines(found: Found) -> String {
+    let mut lines = format!("boxes {}\n", found.boxes().len());
+    for b in found.boxes() {
+        lines += &marked(b.rect, b.ticked.into(), b.coverage);
     }
-    let (numbers, ends) = grids(lent, answer);
-    lines + &named_sets("grid", numbers, &lent.box_members, ends)
+    let (numbers, ends) = grids(found);
+    lines + &named_sets("grid", numbers, &found.lists().box_members, ends)
 }
 
 /// The numbers of the grids' sets, and the ends of all sets of boxes.
-fn grids<'a>(lent: &'a Workspace, answer: &DetectAnswer) -> (&'a [u32], &'a [u32]) {
-    let ends = &lent.box_ends[..answer.box_sets];
-    (&lent.grid_numbers[..answer.grids], ends)
+fn grids<'a>(found: Found<'a>) -> (&'a [u32], &'a [u32]) {
+    let (lists, counts) = (found.lists(), found.counts());
+    let ends = &lists.box_ends[..counts.box_sets];
+    (&lists.grid_numbers[..counts.grids], ends)
 }
 
 /// The counts, and the findings with their evidence.
-fn finding_lines(lent: &Workspace, a: &DetectAnswer) -> String {
+fn finding_lines(found: Found) -> String {
+    let a = found.counts();
     let counts = [a.rulings, a.printed, a.faint, a.tables, a.boxes, a.grids];
     let mut lines = format!("counts {}\n", counts.map(|n| n.to_string()).join(" "));
     lines += &format!("findings {}\n", a.findings);
-    for finding in lent.findings(a) {
+    for finding in found.findings() {
         lines += &finding_line(&finding);
-        let (value, threshold) = (finding.first_value, finding.first_threshold);
-        lines += &evidence(value, threshold, finding.first_llr);
-        if finding.kind != 19 {
-            let (value, threshold) = (finding.second_value, finding.second_threshold);
-            lines += &evidence(value, threshold, finding.second_llr);
+        for evidence in finding.evidence() {
+            lines += &evidence_line(evidence);
         }
     }
     lines
 }
 
 /// A finding with the facts that its kind has.
-fn finding_line(f: &FindingAtAnswer) -> String {
-    let facts = match f.kind {
-        18 => format!("{} {}", f.a, f.b),
-        19 => format!("{} {}", f.a, float(f.length)),
-        _ => format!("{} {} {}", f.a, f.b, f.c),
+fn finding_line(finding: &Finding) -> String {
+    let facts = match *finding {
+        Finding::Table {
+            rows,
+            columns,
+            rulings,
+            ..
+        } => format!("{rows} {columns} {rulings}"),
+        Finding::FreeRules {
+            horizontal,
+            vertical,
+            longest,
+            ..
+        } => format!("{horizontal} {vertical} {longest}"),
+        Finding::Grid { boxes, ticked, .. } => format!("{boxes} {ticked}"),
+        Finding::Fold {
+            direction, length, ..
+        } => format!("{} {}", direction.number(), float(length)),
     };
-    let (kind, log_odds) = (f.kind, float(f.log_odds));
-    let (x0, y0, x1, y1) = (f.x0, f.y0, f.x1, f.y1);
+    let (kind, log_odds) = (finding.kind(), float(finding.log_odds()));
+    let [x0, y0, x1, y1] = finding.rect();
     format!("finding {kind} {x0} {y0} {x1} {y1} {log_odds} {facts}\n")
 }
 
-fn evidence(value: f64, threshold: f64, llr: f64) -> String {
-    let [value, threshold, llr] = [value, threshold, llr].map(float);
+fn evidence_line(e: &Evidence) -> String {
+    let [value, threshold, llr] = [e.value, e.threshold, e.llr].map(float);
     format!("evidence {value} {threshold} {llr}\n")
 }
 
 /// The closed sets, and the reading order of each grid.
-fn set_lines(lent: &Workspace, answer: &DetectAnswer) -> String {
-    let printed_ends = &lent.printed_ends[..answer.printed_sets];
-    let (numbers, box_ends) = grids(lent, answer);
-    sets(
-        "pieceset",
-        &lent.piece_members,
-        &lent.piece_ends[..answer.rulings],
-    ) + &sets("printedset", &lent.printed_members, printed_ends)
-        + &sets("boxset", &lent.box_members, box_ends)
-        + &named_sets("readingorder", numbers, &lent.reading, box_ends)
+fn set_lines(found: Found) -> String {
+    let (lists, counts) = (found.lists(), found.counts());
+    let piece_ends = &lists.piece_ends[..counts.rulings];
+    let printed_ends = &lists.printed_ends[..counts.printed_sets];
+    let (numbers, box_ends) = grids(found);
+    sets("pieceset", &lists.piece_members, piece_ends)
+        + &sets("printedset", &lists.printed_members, printed_ends)
+        + &sets("boxset", &lists.box_members, box_ends)
+        + &named_sets("readingorder", numbers, &lists.reading, box_ends)
 }

@@ -1,6 +1,6 @@
 //! The calls about rulings: `segments` and `tables`.
 
-use lanegravel_binding::segments::{self, Lent, Page};
+use lanegravel_binding::segments::{self, Page, SegmentsLists};
 use lanegravel_binding::tables::{self, TablesLists};
 
 use crate::answer::{Answer, accepted, list, ruling, sets, table};
@@ -13,13 +13,13 @@ pub const MOST_RULINGS: usize = 4096;
 pub fn segments(fields: Fields) -> Answer {
     let pieces = fields.pieces.len() / 4;
     let room = |name| fields.room(name, pieces).min(MOST_RULINGS);
-    let mut lent = Lent::with_room(room("rulings"), room("index_pieces"));
+    let mut lent = SegmentsLists::with_room(room("rulings"), room("index_pieces"));
     let page = Page {
         width: fields.levelled.width,
         height: fields.levelled.height,
         xheight: fields.xheight,
-        raster: fields.raster,
-        pieces: fields.pieces,
+        raster: &fields.raster,
+        pieces: &fields.pieces,
         params: fields.settings,
     };
     let answer = segments::segments(&page, &mut lent);

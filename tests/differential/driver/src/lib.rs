@@ -11,6 +11,7 @@ pub mod grids;
 pub mod grouping;
 pub mod layout;
 pub mod masks;
+pub mod owned;
 pub mod pages;
 pub mod params;
 pub mod pieces;
