@@ -2,15 +2,16 @@
 //! names, or else the one that ./lanegravel lays into build/, or else the one of `rt staticlib`.
 
 use std::env;
-use std::path::{Path, PathBuf};
+use std::path::{self, Path, PathBuf};
 
 const PLACES: [&str; 2] = ["build", "target/staticlib"];
 
 fn main() {
-    let root = Path::new(env!("CARGO_MANIFEST_DIR")).join("..");
+    let binding = Path::new(env!("CARGO_MANIFEST_DIR"));
+    let root = binding.parent().unwrap_or(binding);
     println!("cargo::rerun-if-env-changed=LANEGRAVEL_LIB");
     let looked_at: Vec<PathBuf> = match env::var_os("LANEGRAVEL_LIB") {
-        Some(file) => vec![file.into()],
+        Some(file) => vec![path::absolute(&file).unwrap_or(file.into())],
         None => PLACES
             .map(|place| root.join(place).join("liblanegravel.a"))
             .into(),
@@ -40,9 +41,9 @@ fn how_to_build(looked_at: &[PathBuf]) {
     let places: Vec<String> = looked_at.iter().map(|f| f.display().to_string()).collect();
     for line in [
         &format!("no static library at {}", places.join(" nor at ")),
-        "a program can't be linked without it. To build it (some minutes, every proof is checked):",
-        "  in the root of the repository, ./lanegravel --help or rt staticlib lanegravel",
-        "To use one that is elsewhere, set LANEGRAVEL_LIB to its file.",
+        "without it nothing can be linked; to build it, every proof checked, which takes some minutes:",
+        "    rt staticlib lanegravel    in the root of the repository",
+        "to use one that lies elsewhere, set LANEGRAVEL_LIB to its whole path",
     ] {
         println!("cargo::warning={line}");
     }

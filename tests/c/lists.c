@@ -1,5 +1,6 @@
 #include "check.h"
 
+#include <stdio.h>
 #include <stdlib.h>
 
 enum { N = 5, M = 3, WIDTH = 7, HEIGHT = 6 };
@@ -59,6 +60,13 @@ static void test_limits(void) {
     CHECK(LANEGRAVEL_NUMBERS(N) == 20);
 }
 
+static void test_version(void) {
+    char version[32];
+    sprintf(version, "%d.%d.%d", LANEGRAVEL_VERSION_MAJOR, LANEGRAVEL_VERSION_MINOR,
+            LANEGRAVEL_VERSION_PATCH);
+    CHECK(strcmp(version, LANEGRAVEL_VERSION) == 0);
+}
+
 static uint32_t pieces_missed(size_t pieces) {
     static uint32_t rects[LANEGRAVEL_NUMBERS(LANEGRAVEL_MOST_PIECES + 1)];
     return lanegravel_segments(NULL, 0, 1, 1, 1.0, rects, LANEGRAVEL_NUMBERS(pieces), settings(), NULL, 0,
@@ -94,5 +102,6 @@ void test_lists_of_a_page(void) {
     test_laid(N, 0, WIDTH, HEIGHT);
     test_laid(4 * N + 1, 2 * M, 1, 1);
     test_limits();
+    test_version();
     test_library_limits();
 }

@@ -51,8 +51,8 @@ int main(int count, char **arguments) {
     for (case_number = 0; case_number < calls; case_number++) {
         try_one(guarded);
     }
-    printf("memory: %s lists, seed %s: %s calls, no fault; of detect's pages %llu accepted, %llu refused\n",
-           arguments[1], arguments[3], arguments[2], (unsigned long long)accepted,
-           (unsigned long long)missed);
+    printf("memory: %s lists, seed %s: %s calls%s, no fault; detect accepted %llu and refused %llu\n",
+           arguments[1], arguments[3], arguments[2], guarded ? ", each twice" : "",
+           (unsigned long long)accepted, (unsigned long long)missed);
     return 0;
 }
