@@ -15,7 +15,6 @@ enum { PAGE_WIDTH = 300, PAGE_HEIGHT = 200, DPI = 100 };
 /* The levelled picture has room for the three rows and two columns that the page is askew. */
 enum { WIDTH = PAGE_WIDTH + 2, HEIGHT = PAGE_HEIGHT + 3 };
 enum { MOST_PIECES = 32, MOST_GLYPHS = 8 };
-static const double XHEIGHT = 8.0;
 
 struct form {
     uint8_t picture[WIDTH * HEIGHT]; /* levelled, to draw on */
@@ -129,26 +128,30 @@ static struct lanegravel_rulings_params settings(void) {
     return p;
 }
 
-static struct lanegravel_detect_answer detect(const struct form *f, const struct lanegravel_lists *l) {
-    struct lanegravel_fusion_params bounds;
-    bounds.llr_clip = 4.0;
-    bounds.group_cap = 6.0;
-    return lanegravel_detect_into(PAGE_WIDTH, PAGE_HEIGHT, WIDTH, HEIGHT, DPI, XHEIGHT, settings(),
-                                  bounds, f->gray, sizeof f->gray, f->ink, sizeof f->ink, f->shear,
-                                  PAGE_WIDTH, f->shear_x, HEIGHT, f->pieces, f->pieces_count,
-                                  f->glyphs, f->glyphs_count, l);
-}
-
-static struct lanegravel_finding_at_answer finding(const struct lanegravel_lists *l, size_t count,
-                                                   size_t i) {
-    return lanegravel_finding_at(
-        l->page.entries, l->page.count, l->kinds.entries, l->kinds.count, l->fact_a.entries,
-        l->fact_a.count, l->fact_b.entries, l->fact_b.count, l->fact_c.entries, l->fact_c.count,
-        l->log_odds.entries, l->log_odds.count, l->first_values.entries, l->first_values.count,
-        l->first_thresholds.entries, l->first_thresholds.count, l->first_llrs.entries,
-        l->first_llrs.count, l->second_values.entries, l->second_values.count,
-        l->second_thresholds.entries, l->second_thresholds.count, l->second_llrs.entries,
-        l->second_llrs.count, l->lengths.entries, l->lengths.count, count, i);
+static struct lanegravel_page given(const struct form *f) {
+    struct lanegravel_page page;
+    page.page_width = PAGE_WIDTH;
+    page.page_height = PAGE_HEIGHT;
+    page.width = WIDTH;
+    page.height = HEIGHT;
+    page.dpi = DPI;
+    page.xheight = 8.0;
+    page.params = settings();
+    page.fusion.llr_clip = 4.0;
+    page.fusion.group_cap = 6.0;
+    page.gray = f->gray;
+    page.gray_count = sizeof f->gray;
+    page.ink = f->ink;
+    page.ink_count = sizeof f->ink;
+    page.shear = f->shear;
+    page.shear_count = PAGE_WIDTH;
+    page.shear_x = f->shear_x;
+    page.shear_x_count = HEIGHT;
+    page.pieces = f->pieces;
+    page.pieces_count = f->pieces_count;
+    page.glyphs = f->glyphs;
+    page.glyphs_count = f->glyphs_count;
+    return page;
 }
 
 static void print(struct lanegravel_finding_at_answer f) {
@@ -171,38 +174,41 @@ static void print(struct lanegravel_finding_at_answer f) {
     printf(", log odds %.2f\n", f.log_odds);
 }
 
-/* Reads the page into this memory, and prints what was found or which question it missed. */
-static int read_into(void *memory, const struct form *f) {
-    struct lanegravel_lists lists = lanegravel_lists_over(memory, f->pieces_count / 4,
-                                                          f->glyphs_count / 4, WIDTH, HEIGHT);
-    struct lanegravel_detect_answer answer = detect(f, &lists);
+/* Prints what was found, or which question was missed. */
+static int report(const struct lanegravel_lists *lists, struct lanegravel_detect_answer answer) {
     size_t i;
     if (answer.number != LANEGRAVEL_ACCEPTED) {
         fprintf(stderr, "the page misses question %u\n", answer.number);
         return EXIT_FAILURE;
     }
     for (i = 0; i < answer.findings; i++) {
-        print(finding(&lists, answer.findings, i));
+        print(lanegravel_finding_in(lists, answer.findings, i));
     }
     return EXIT_SUCCESS;
 }
 
 int main(void) {
     static struct form form;
-    size_t bytes;
+    struct lanegravel_page page;
+    struct lanegravel_lists lists;
+    size_t pieces, glyphs, bytes;
     void *memory;
     int status;
     draw(&form);
     scan(&form);
-    bytes = lanegravel_lists_size(form.pieces_count / 4, form.glyphs_count / 4, WIDTH, HEIGHT);
+    page = given(&form);
+    pieces = page.pieces_count / 4;
+    glyphs = page.glyphs_count / 4;
+    bytes = lanegravel_lists_size(pieces, glyphs, page.width, page.height);
     memory = malloc(bytes);
     if (memory == NULL) {
         fputs("no memory\n", stderr);
         return EXIT_FAILURE;
     }
-    printf("%u pieces, %u glyph boxes, %lu bytes lent\n", (unsigned)(form.pieces_count / 4),
-           (unsigned)(form.glyphs_count / 4), (unsigned long)bytes);
-    status = read_into(memory, &form);
+    printf("%u pieces, %u glyph boxes, %lu bytes lent\n", (unsigned)pieces, (unsigned)glyphs,
+           (unsigned long)bytes);
+    lists = lanegravel_lists_over(memory, pieces, glyphs, page.width, page.height);
+    status = report(&lists, lanegravel_detect_into(&page, &lists));
     free(memory);
     return status;
 }

@@ -406,6 +406,28 @@ struct lanegravel_detect_answer {
     size_t box_sets;
 };
 
+/* What a page is given by, for lanegravel_detect_into. Each list has its count behind it. */
+struct lanegravel_page {
+    size_t page_width, page_height; /* of the page as it was scanned */
+    size_t width, height;           /* of the levelled picture */
+    uint16_t dpi;
+    double xheight;
+    struct lanegravel_rulings_params params;
+    struct lanegravel_fusion_params fusion;
+    const uint8_t *gray; /* the page, row by row: page_width * page_height bytes */
+    size_t gray_count;
+    const uint8_t *ink; /* levelled, row by row: width * height bytes, not 0 is ink */
+    size_t ink_count;
+    const int32_t *shear; /* how far each page column goes down */
+    size_t shear_count;
+    const int32_t *shear_x; /* how far each levelled row goes to the right */
+    size_t shear_x_count;
+    const uint32_t *pieces; /* levelled rectangles */
+    size_t pieces_count;    /* of NUMBERS, four a piece */
+    const uint32_t *glyphs; /* levelled rectangles */
+    size_t glyphs_count;    /* of NUMBERS, four a glyph box */
+};
+
 /* A lent list: where its entries are, and how many. Where the count is 0, entries may be null. */
 struct lanegravel_u8_list {
     uint8_t *entries;
@@ -547,14 +569,9 @@ struct lanegravel_detect_answer lanegravel_detect(
     struct lanegravel_u32_list *listed, struct lanegravel_u32_list *listed_ends,
     struct lanegravel_u64_list *keys, struct lanegravel_u64_list *box_keys);
 
-/* The same, over lists by name. The struct itself is not changed. */
+/* The same, over a page and lists by name. The structs themselves are not changed. */
 static inline struct lanegravel_detect_answer lanegravel_detect_into(
-    size_t page_width, size_t page_height, size_t width, size_t height, uint16_t dpi, double xheight,
-    struct lanegravel_rulings_params p, struct lanegravel_fusion_params f,
-    const uint8_t *gray, size_t gray_count, const uint8_t *ink, size_t ink_count,
-    const int32_t *shear, size_t shear_count, const int32_t *shear_x, size_t shear_x_count,
-    const uint32_t *pieces, size_t pieces_count, const uint32_t *glyphs, size_t glyphs_count,
-    const struct lanegravel_lists *lists) {
+    const struct lanegravel_page *page, const struct lanegravel_lists *lists) {
     struct lanegravel_lists l = *lists;
     struct lanegravel_u32_list rects[2], tags[2], chosen[2], rest[2], members[3], ends[3], numbers[2];
     struct lanegravel_u32_list facts[4], parents[2], order[2];
@@ -594,12 +611,27 @@ static inline struct lanegravel_detect_answer lanegravel_detect_into(
     scores[5] = l.second_thresholds;
     scores[6] = l.second_llrs;
     scores[7] = l.lengths;
-    return lanegravel_detect(page_width, page_height, width, height, dpi, xheight, p, f,
-                             gray, gray_count, ink, ink_count, shear, shear_count,
-                             shear_x, shear_x_count, pieces, pieces_count, glyphs, glyphs_count,
-                             &l.levelled, rects, tags, values, chosen, rest, members, ends, numbers,
-                             &l.bounds, &l.rows, &l.columns, &l.rulings, &l.page, facts, scores,
-                             parents, order, &l.listed, &l.listed_ends, &l.keys, &l.box_keys);
+    return lanegravel_detect(
+        page->page_width, page->page_height, page->width, page->height, page->dpi, page->xheight,
+        page->params, page->fusion, page->gray, page->gray_count, page->ink, page->ink_count,
+        page->shear, page->shear_count, page->shear_x, page->shear_x_count, page->pieces,
+        page->pieces_count, page->glyphs, page->glyphs_count, &l.levelled, rects, tags, values, chosen,
+        rest, members, ends, numbers, &l.bounds, &l.rows, &l.columns, &l.rulings, &l.page, facts, scores,
+        parents, order, &l.listed, &l.listed_ends, &l.keys, &l.box_keys);
+}
+
+/* Finding i of the `findings` that an accepted page has left in these lists, as by lanegravel_finding_at. */
+static inline struct lanegravel_finding_at_answer lanegravel_finding_in(
+    const struct lanegravel_lists *lists, size_t findings, size_t i) {
+    const struct lanegravel_lists *l = lists;
+    return lanegravel_finding_at(
+        l->page.entries, l->page.count, l->kinds.entries, l->kinds.count, l->fact_a.entries,
+        l->fact_a.count, l->fact_b.entries, l->fact_b.count, l->fact_c.entries, l->fact_c.count,
+        l->log_odds.entries, l->log_odds.count, l->first_values.entries, l->first_values.count,
+        l->first_thresholds.entries, l->first_thresholds.count, l->first_llrs.entries,
+        l->first_llrs.count, l->second_values.entries, l->second_values.count,
+        l->second_thresholds.entries, l->second_thresholds.count, l->second_llrs.entries,
+        l->second_llrs.count, l->lengths.entries, l->lengths.count, findings, i);
 }
 
 /* The count, and no more than that. */

@@ -103,11 +103,18 @@ static struct lanegravel_detect_answer call(const struct lanegravel_lists *l, ui
                                             size_t pieces_count,
                                             struct lanegravel_fusion_params f) {
     struct given g;
+    struct lanegravel_page page;
     draw(&g);
-    return lanegravel_detect_into(PAGE_WIDTH, PAGE_HEIGHT, WIDTH, HEIGHT, dpi, 4.0, settings(), f,
-                                  g.gray, COUNT(g.gray), g.ink, COUNT(g.ink), g.shear,
-                                  COUNT(g.shear), g.shear_x, COUNT(g.shear_x), pieces,
-                                  pieces_count, glyphs, COUNT(glyphs), l);
+    page.page_width = PAGE_WIDTH, page.page_height = PAGE_HEIGHT;
+    page.width = WIDTH, page.height = HEIGHT;
+    page.dpi = dpi, page.xheight = 4.0, page.params = settings(), page.fusion = f;
+    page.gray = g.gray, page.gray_count = COUNT(g.gray);
+    page.ink = g.ink, page.ink_count = COUNT(g.ink);
+    page.shear = g.shear, page.shear_count = COUNT(g.shear);
+    page.shear_x = g.shear_x, page.shear_x_count = COUNT(g.shear_x);
+    page.pieces = pieces, page.pieces_count = pieces_count;
+    page.glyphs = glyphs, page.glyphs_count = COUNT(glyphs);
+    return lanegravel_detect_into(&page, l);
 }
 
 static void is_empty(struct lanegravel_detect_answer a, uint32_t number) {
@@ -250,6 +257,10 @@ static void test_laid(void) {
     CHECK(a.number == LANEGRAVEL_ACCEPTED && a.findings == 4);
     CHECK(l.kinds.entries[0] == LANEGRAVEL_TABLE && l.kinds.entries[1] == LANEGRAVEL_FREE_RULES);
     CHECK(l.kinds.entries[2] == LANEGRAVEL_GRID && l.kinds.entries[3] == LANEGRAVEL_FOLD);
+    CHECK(lanegravel_finding_in(&l, a.findings, 0).c == 6);
+    CHECK(lanegravel_finding_in(&l, a.findings, 2).second_value == 0.875);
+    CHECK(lanegravel_finding_in(&l, a.findings, 3).length == 4);
+    CHECK(lanegravel_finding_in(&l, a.findings, 4).found == 0);
     for (k = 0; k < LISTS; k++) {
         CHECK(memcmp(count_of(&l, k), &asked[k], sizeof asked[k]) == 0);
     }

@@ -51,9 +51,12 @@ static void answered(const struct lanegravel_lists *l, const struct lanegravel_d
 
 void call_detect(const struct input *in) {
     struct lanegravel_lists l = lend_lists(in);
-    struct lanegravel_detect_answer a = lanegravel_detect_into(
-        in->page_width, in->page_height, in->width, in->height, in->dpi, in->xheight, in->p, in->f,
-        GIVE(gray), GIVE(ink), GIVE(shear), GIVE(shear_x), GIVE(pieces), GIVE(glyphs), &l);
+    struct lanegravel_page page = {
+        in->page_width, in->page_height, in->width,   in->height,    in->dpi,      in->xheight,
+        in->p,          in->f,           GIVE(gray),  GIVE(ink),     GIVE(shear),  GIVE(shear_x),
+        GIVE(pieces),   GIVE(glyphs),
+    };
+    struct lanegravel_detect_answer a = lanegravel_detect_into(&page, &l);
     answer(a.number);
     answer(a.rulings), answer(a.printed), answer(a.faint), answer(a.tables), answer(a.boxes);
     answer(a.grids), answer(a.findings), answer(a.printed_sets), answer(a.free), answer(a.box_sets);

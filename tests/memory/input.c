@@ -141,9 +141,10 @@ void draw(struct input *in) {
 /* One count less or more, a side or an entry of any size, other settings. */
 void spoil(struct input *in) {
     size_t *const sides[] = {&in->page_width, &in->page_height, &in->width, &in->height};
-    size_t *const lengths[] = {&in->gray_count,   &in->ink_count,    &in->shear_count,
-                               &in->shear_x_count, &in->pieces_count, &in->directions_count};
-    size_t *side = sides[below(4)], *length = lengths[below(6)];
+    size_t *const lengths[] = {&in->gray_count,    &in->ink_count,        &in->shear_count,
+                               &in->shear_x_count, &in->pieces_count,     &in->glyphs_count,
+                               &in->directions_count};
+    size_t *side = sides[below(4)], *length = lengths[below(7)];
     uint64_t any = bits();
     switch (below(9)) {
     case 0:
