@@ -23,6 +23,7 @@ pub mod replay_detect;
 mod replay_levelling;
 mod replay_pages;
 mod replay_settings;
+pub mod reused;
 pub mod ruled;
 pub mod rust_layout;
 pub mod segments;
