@@ -13,7 +13,8 @@ use borrow.Author.Tests.{leb-true, ltb-true, eqb-true, le-leb, lt-ltb, eq-eqb}
 use Rattle.layout.specs.declared.sides.Sides.{Sides}
 use Rattle.layout.specs.Sides.{sideFits, levelledSidesFit, sidesFit, rasterFits}
 use Rattle.layout.specs.Tables.{entry, entryFits, entriesFit, tablesLong, tablesFit, Table, Sheared}
-use Rattle.layout.proofs.Every.{and-true, and-parts, every-at, every-of}
+use Rattle.lists.proofs.Every.{and-both, every-at, every-of}
+use Rattle.layout.proofs.Every.{and-parts}
 use Rattle.layout.proofs.Entries.{whole-not-below}
 
 -- ---- question 1
@@ -36,7 +37,7 @@ pub sides-say : (w h : ℕ) → levelledSidesFit w h ≡ true → (w ≤ 8192) �
 sides-say w h t = let p = and-parts (sideFits w) (sideFits h) t in (side-yes w (p .0) .1, side-yes h (p .1) .1)
 
 side-of : (n : ℕ) → 1 ≤ n → n ≤ 8192 → sideFits n ≡ true
-side-of n p q = and-true (le-leb 1 n p) (le-leb n 8192 q)
+side-of n p q = and-both (le-leb 1 n p) (le-leb n 8192 q)
 
 pub sides-yes : (s : Sides) → sidesFit s ≡ true → SidesAre s
 unfolding sidesFit
@@ -60,11 +61,11 @@ sides-yes s h =
 pub sides-of : (s : Sides) → SidesAre s → sidesFit s ≡ true
 unfolding sidesFit
 sides-of s a =
-    and-true
-    (and-true
-    (and-true (side-of (s .pw) (a .pw-some) (omega (arith, a .page-wide, a .w-most))) (side-of (s .ph) (a .ph-some) (omega (arith, a .page-high, a .h-most))))
-    (and-true (side-of (s .w) (a .w-some) (a .w-most)) (side-of (s .h) (a .h-some) (a .h-most))))
-    (and-true (le-leb (s .pw) (s .w) (a .page-wide)) (le-leb (s .ph) (s .h) (a .page-high)))
+    and-both
+    (and-both
+    (and-both (side-of (s .pw) (a .pw-some) (omega (arith, a .page-wide, a .w-most))) (side-of (s .ph) (a .ph-some) (omega (arith, a .page-high, a .h-most))))
+    (and-both (side-of (s .w) (a .w-some) (a .w-most)) (side-of (s .h) (a .h-some) (a .h-most))))
+    (and-both (le-leb (s .pw) (s .w) (a .page-wide)) (le-leb (s .ph) (s .h) (a .page-high)))
 
 -- ---- the lengths of rasters
 
@@ -92,7 +93,7 @@ module _ (n limit : ℕ) (table : List ℤ) where
 
   pub table-of : Table n limit table → entriesFit limit table ≡ true
   unfolding entriesFit
-  table-of t = every-of (length table) (entryFits limit table) (λ i m. and-true (whole-not-below (getD table i (pos 0)) (entry table i) (t .whole i m)) (le-leb (entry table i) limit (t .most i (omega (arith, t .long)))))
+  table-of t = every-of (length table) (entryFits limit table) (λ i m. and-both (whole-not-below (getD table i (pos 0)) (entry table i) (t .whole i m)) (le-leb (entry table i) limit (t .most i (omega (arith, t .long)))))
 
 module _ (sides : Sides) (shear shear-x : List ℤ) where
   pub long-yes : tablesLong sides shear shear-x ≡ true → (length shear ≡ sides .pw) × (length shear-x ≡ sides .h)
@@ -101,7 +102,7 @@ module _ (sides : Sides) (shear shear-x : List ℤ) where
       (eqb-true (length shear) (sides .pw) (p .0), eqb-true (length shear-x) (sides .h) (p .1))
 
   pub long-of : length shear ≡ sides .pw → length shear-x ≡ sides .h → tablesLong sides shear shear-x ≡ true
-  long-of p q = and-true (eq-eqb (length shear) (sides .pw) p) (eq-eqb (length shear-x) (sides .h) q)
+  long-of p q = and-both (eq-eqb (length shear) (sides .pw) p) (eq-eqb (length shear-x) (sides .h) q)
 
   -- questions 1, 3 and 4 together
   pub sheared-yes : sidesFit sides ≡ true → tablesLong sides shear shear-x ≡ true → tablesFit sides shear shear-x ≡ true → Sheared sides shear shear-x
@@ -121,5 +122,5 @@ module _ (sides : Sides) (shear shear-x : List ℤ) where
   pub sheared-of : Sheared sides shear shear-x → (tablesLong sides shear shear-x ≡ true) × (tablesFit sides shear shear-x ≡ true)
   sheared-of s = (
     long-of (s .columns .long) (s .rows .long),
-    and-true (table-of (sides .pw) (sides .h - sides .ph) shear (s .columns)) (table-of (sides .h) (sides .w - sides .pw) shear-x (s .rows)),
+    and-both (table-of (sides .pw) (sides .h - sides .ph) shear (s .columns)) (table-of (sides .h) (sides .w - sides .pw) shear-x (s .rows)),
   )

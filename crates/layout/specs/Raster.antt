@@ -1,12 +1,6 @@
--- Rasters as lists, row by row, and what holds of every index.
+-- Rasters as lists, row by row.
 use Prim.Native.Nat.{ℕ, zero, suc}
-use mathlib.Core.Bool.{Bool, true, _&&_}
 use mathlib.Core.List.{List, [], _∷_, _++_}
-
--- The test is passed by every index below n.
-unfoldable pub every : ℕ → (ℕ → Bool) → Bool
-every zero p = true
-every (suc n) p = every n p && p n
 
 -- One row of w places: f x at column x.
 unfoldable pub rowOf : ℕ → (ℕ → ℕ) → List ℕ

@@ -8,7 +8,7 @@ use lib.IntN.{ℤ, pos, natAbs}
 use lib.Signed.{nonNeg}
 use lib.ListN.{length, getD}
 use Rattle.layout.specs.declared.sides.Sides.{Sides}
-use Rattle.layout.specs.Raster.{every}
+use Rattle.lists.specs.Lists.{everyBelow}
 
 -- The entry of a shear table at an index; one that passes question 4 is not below 0.
 abbrev pub entry : List ℤ → ℕ → ℕ
@@ -20,7 +20,7 @@ entryFits limit table i = nonNeg (getD table i (pos 0)) && leb (entry table i) l
 
 -- Every entry is from 0 to limit.
 unfoldable pub entriesFit : ℕ → List ℤ → Bool
-entriesFit limit table = every (length table) (entryFits limit table)
+entriesFit limit table = everyBelow (length table) (entryFits limit table)
 
 -- Question 3 of the tables: `shear` one entry per page column, `shear_x` one per levelled row.
 abbrev pub tablesLong : Sides → List ℤ → List ℤ → Bool

@@ -6,14 +6,15 @@ use native.Mathlib.Nat.{le-antisymm}
 use native.Mathlib.Omega.{arith}
 use lib.ListN.{length}
 use borrow.Author.Tests.{not-true, not-false}
-use Rattle.layout.specs.Raster.{every}
+use Rattle.lists.specs.Lists.{everyBelow}
+use Rattle.lists.proofs.Every.{every-fails}
 use Rattle.layout.specs.Tables.{entryFits, entriesFit}
 use Rattle.layout.proofs.tables.entries_fit.Statement.{statement}
 use Rattle.layout.proofs.tables.entries_fit.Tie as tie
-use Rattle.layout.proofs.Every.{every-none, every-more, every-but}
+use Rattle.layout.proofs.Every.{every-none, every-more}
 
 abbrev Inv-loop : tie.InvT-loop
-Inv-loop table limit i₀ i = (i ≤ length table) × (every i (entryFits limit table) ≡ true)
+Inv-loop table limit i₀ i = (i ≤ length table) × (everyBelow i (entryFits limit table) ≡ true)
 
 abbrev μ-loop : tie.MeasureT-loop
 μ-loop table limit i₀ i = length table - i
@@ -29,7 +30,7 @@ unfolding entriesFit
 returns c =
     let a = c .before .before .before .before .args in
     let i = c .before .before .before .loop .i in
-    sym (every-but (length (a .table .now)) (entryFits (a .limit) (a .table .now)) i (c .before .before .loop-test .taken) (sym (c .before .entry-fits .ensures) ∙ not-true _ (c .if1 .taken)))
+    sym (every-fails (length (a .table .now)) (entryFits (a .limit) (a .table .now)) i (c .before .before .loop-test .taken) (sym (c .before .entry-fits .ensures) ∙ not-true _ (c .if1 .taken)))
 
 add-i : tie.Need-add-i Inv-loop μ-loop
 add-i c = omega arith
@@ -48,7 +49,7 @@ unfolding entriesFit
 returns-2 c =
     let at-loop = c .before in
     let a = at-loop .before .args in
-    sym (at-loop .loop .inv .1) ∙ ap (λ n. every n (entryFits (a .limit) (a .table .now))) (le-antisymm (at-loop .loop .inv .0) (c .loop-test .left))
+    sym (at-loop .loop .inv .1) ∙ ap (λ n. everyBelow n (entryFits (a .limit) (a .table .now))) (le-antisymm (at-loop .loop .inv .0) (c .loop-test .left))
 
 pub entries-fit-spec : {M : Type 1} → statement M
 entries-fit-spec = tie.close (tie.spec Inv-loop μ-loop loop-holds entry-fits-requires returns add-i loop-less loop-again returns-2)
