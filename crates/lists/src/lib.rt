@@ -1,8 +1,8 @@
 // What several crates do with lent lists.
 ghost use mathlib.Core.Path.{_≡_};
-ghost use Prim.Native.Nat.{_≤_};
+ghost use Prim.Native.Nat.{_≤_, _<_, _^_};
 ghost use lib.ListN.{length, replicate};
-ghost use Rattle.lists.specs.Lists.{written, roomFor};
+ghost use Rattle.lists.specs.Lists.{below, written, roomFor};
 
 // The first n places hold the value; the places past them keep their content.
 pub fn fill(list: &mut [u32], n: usize, value: u32)
@@ -12,6 +12,18 @@ pub fn fill(list: &mut [u32], n: usize, value: u32)
     let mut i = 0;
     while i < n {
         list[i] = value;
+        i += 1;
+    }
+}
+
+// The first n places hold the numbers from 0 on; the places past them keep their content.
+pub fn numbers(list: &mut [u32], n: usize)
+    requires { ⌜ (n ≤ length (now list)) × (n < 2 ^ 32) ⌝ }
+    ensures { λ _. ⌜ now (list .exit) ≡ written (below n) (now (list .entry)) ⌝ }
+{
+    let mut i = 0;
+    while i < n {
+        list[i] = i as u32;
         i += 1;
     }
 }

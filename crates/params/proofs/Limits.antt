@@ -19,12 +19,12 @@ use Rattle.math.proofs.Sums.{whole, whole-value}
 use Rattle.questions.specs.Questions.{firstMissed}
 use Rattle.questions.proofs.FirstMissed.{all-yes}
 use Rattle.params.specs.declared.settings.RulingsParams.{RulingsParams}
-use Rattle.params.specs.Scan.{dpiGiven, xheightInRange, scanQuestions, dpiQuestions, xheightQuestions}
+use Rattle.params.specs.Scan.{dpiGiven, xheightInRange, scanQuestions, xheightQuestions}
 use Rattle.params.proofs.Every.{both-true}
 use Rattle.params.proofs.Bounds.{XHeight, xheight-says}
 use Rattle.params.specs.Limits.{alignSetting}
 use Rattle.params.specs.Settled.{Settled}
-use Rattle.params.proofs.Passed.{Validated, settings-passed}
+use Rattle.params.proofs.Passed.{settings-passed}
 
 -- ---- the scan
 
@@ -33,9 +33,6 @@ dpi-says dpi h = positive (eqb-false dpi 0 (not-true (eqb dpi 0) h))
   where
     positive : (dpi ≡ 0 → ⊥) → 1 ≤ dpi
     positive n = omega arith
-
-pub dpi-passed : (dpi : ℕ) → firstMissed (dpiQuestions dpi) ≡ 0 → 1 ≤ dpi
-dpi-passed dpi h = dpi-says dpi (all-yes (dpiQuestions dpi) tt h .0)
 
 pub xheight-passed : (x : Float) → firstMissed (xheightQuestions x) ≡ 0 → XHeight x
 xheight-passed x h = xheight-says x (all-yes (xheightQuestions x) tt h .0)

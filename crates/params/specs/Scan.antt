@@ -1,4 +1,4 @@
--- Question 2 of document 01, about the resolution and the x-height of a scan. A call that is given only one of the two asks only about that one.
+-- Question 2 of document 01, about the resolution and the x-height of a scan. A call that is given only the x-height asks only about that.
 use Prim.Native.Nat.{ℕ}
 use mathlib.Core.Bool.{Bool, not, _&&_}
 use mathlib.Core.List.{List, [], _∷_}
@@ -20,10 +20,6 @@ xheightInRange x = finite x && lt zero x && le x largestXheight
 -- Question 2, where both are given.
 abbrev pub scanQuestions : ℕ → Float → List Question
 scanQuestions dpi xheight = (2, dpiGiven dpi && xheightInRange xheight) ∷ []
-
--- Question 2, where only the dpi is given.
-abbrev pub dpiQuestions : ℕ → List Question
-dpiQuestions dpi = (2, dpiGiven dpi) ∷ []
 
 -- Question 2, where only the x-height is given.
 abbrev pub xheightQuestions : Float → List Question

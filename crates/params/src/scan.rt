@@ -1,8 +1,7 @@
-// Question 2: the resolution and the x-height of a scan. A smaller call asks only about what it is
-// given, so each half has a guard of its own.
+// Question 2: the resolution and the x-height of a scan. A call that is given only the x-height asks only about that.
 ghost use mathlib.Core.Path.{_≡_};
 ghost use Rattle.questions.specs.Questions.{firstMissed};
-ghost use Rattle.params.specs.Scan.{xheightInRange, scanQuestions, dpiQuestions, xheightQuestions};
+ghost use Rattle.params.specs.Scan.{xheightInRange, scanQuestions, xheightQuestions};
 
 fn xheight_in_range(xheight: f64) -> bool
     ensures { λ r. ⌜ r ≡ xheightInRange xheight ⌝ }
@@ -18,12 +17,6 @@ pub fn missed_by_scan(dpi: u16, xheight: f64) -> u32
     } else {
         2
     }
-}
-
-pub fn missed_by_dpi(dpi: u16) -> u32
-    ensures { λ r. ⌜ r ≡ firstMissed (dpiQuestions dpi) ⌝ }
-{
-    if dpi != 0 { 0 } else { 2 }
 }
 
 pub fn missed_by_xheight(xheight: f64) -> u32

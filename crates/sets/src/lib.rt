@@ -15,11 +15,7 @@ pub fn begin(parents: &mut [u32], n: usize)
     requires { ⌜ Room n (now parents) ⌝ }
     ensures { λ _. ⌜ now (parents .exit) ≡ written (below n) (now (parents .entry)) ⌝ }
 {
-    let mut i = 0;
-    while i < n {
-        parents[i] = i as u32;
-        i += 1;
-    }
+    lists::numbers(parents, n);
 }
 
 // The root of an index, with path halving. n is there for the contract alone.
