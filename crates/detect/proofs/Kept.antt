@@ -4,7 +4,7 @@ use mathlib.Core.List.{List}
 use Prim.Native.Nat.{ℕ}
 use lib.Ieee.{Float}
 use Rattle.sets.specs.Listing.{ReadAs}
-use Rattle.segments.specs.Contract.{AllNear}
+use Rattle.segments.specs.Call.{AllNear}
 use Rattle.page.specs.Page as Page
 use Rattle.page.specs.Page.{Page}
 

@@ -1,7 +1,5 @@
 // Rule pieces to rulings (crate `segments`).
-ghost use lib.ListN.{length};
-ghost use Rattle.rects.specs.Rects.{count};
-ghost use Rattle.segments.specs.Contract.{roomFits, Segments};
+ghost use Rattle.segments.specs.Call.{Segments};
 
 #[no_mangle]
 pub extern "C" fn lanegravel_segments(
@@ -22,15 +20,38 @@ pub extern "C" fn lanegravel_segments(
     work: &mut [u32],
     keys: &mut [u64],
 ) -> segments::segments::Answer
-    ensures { λ r.
-        ⌜ Segments (now (raster .entry)) w h xheight (now (pieces .entry)) p
-        (roomFits w h (count (now (pieces .entry))) (length (now (raster .entry)))
-        (length (now (rects .entry))) (length (now (directions .entry))) (length (now (contrasts .entry))) (length (now (members .entry))) (length (now (ends .entry)))
-        (length (now (parents .entry))) (length (now (listed .entry))) (length (now («listed_ends» .entry))) (length (now (work .entry))) (length (now (keys .entry))))
-        (now (rects .entry)) (now (directions .entry)) (now (contrasts .entry)) (now (members .entry)) (now (ends .entry))
-        (now (parents .entry)) (now (listed .entry)) (now («listed_ends» .entry)) (now (work .entry)) (now (keys .entry))
-        (now (rects .exit)) (now (directions .exit)) (now (contrasts .exit)) (now (members .exit)) (now (ends .exit))
-        (now (parents .exit)) (now (listed .exit)) (now («listed_ends» .exit)) (now (work .exit)) (now (keys .exit)) (r .number) (r .count) ⌝ }
+    ensures { λ r. ⌜ Segments (record {
+      raster = now (raster .entry);
+      w = w;
+      h = h;
+      xheight = xheight;
+      settings = p;
+      pieces = now (pieces .entry);
+    })
+        (record {
+          rects = now (rects .entry);
+          directions = now (directions .entry);
+          contrasts = now (contrasts .entry);
+          piece-members = now (members .entry);
+          piece-ends = now (ends .entry);
+          parents = now (parents .entry);
+          listed = now (listed .entry);
+          listed-ends = now («listed_ends» .entry);
+          work = now (work .entry);
+          keys = now (keys .entry);
+        })
+        (record {
+          rects = now (rects .exit);
+          directions = now (directions .exit);
+          contrasts = now (contrasts .exit);
+          piece-members = now (members .exit);
+          piece-ends = now (ends .exit);
+          parents = now (parents .exit);
+          listed = now (listed .exit);
+          listed-ends = now («listed_ends» .exit);
+          work = now (work .exit);
+          keys = now (keys .exit);
+        }) r ⌝ }
 {
     segments::segments::segments(
         raster,

@@ -21,42 +21,42 @@ pub extern "C" fn lanegravel_tables(
     work: &mut [u32],
     keys: &mut [u64],
 ) -> tables::Answer
-    ensures { λ r. ⌜ Tables xheight p (now (rects .entry)) (now (directions .entry))
+    ensures { λ r. ⌜ Tables (record {
+      xheight = xheight;
+      settings = p;
+      rects = now (rects .entry);
+      directions = now (directions .entry);
+    })
         (record {
-          lists = record {
-            members = now (members .entry);
-            ends = now (ends .entry);
-            numbers = now (numbers .entry);
-            bounds = now (bounds .entry);
-            rows = now (rows .entry);
-            columns = now (columns .entry);
-            rulings = now (rulings .entry);
-            shares = now (shares .entry);
-            free = now (free .entry);
-            parents = now (parents .entry);
-            work = now (work .entry);
-            keys = now (keys .entry);
-          };
+          printed-members = now (members .entry);
+          printed-ends = now (ends .entry);
+          numbers = now (numbers .entry);
+          bounds = now (bounds .entry);
+          rows = now (rows .entry);
+          columns = now (columns .entry);
+          rulings = now (rulings .entry);
+          shares = now (shares .entry);
+          free = now (free .entry);
           chosen = now (chosen .entry);
+          parents = now (parents .entry);
+          work = now (work .entry);
+          keys = now (keys .entry);
         })
         (record {
-          lists = record {
-            members = now (members .exit);
-            ends = now (ends .exit);
-            numbers = now (numbers .exit);
-            bounds = now (bounds .exit);
-            rows = now (rows .exit);
-            columns = now (columns .exit);
-            rulings = now (rulings .exit);
-            shares = now (shares .exit);
-            free = now (free .exit);
-            parents = now (parents .exit);
-            work = now (work .exit);
-            keys = now (keys .exit);
-          };
+          printed-members = now (members .exit);
+          printed-ends = now (ends .exit);
+          numbers = now (numbers .exit);
+          bounds = now (bounds .exit);
+          rows = now (rows .exit);
+          columns = now (columns .exit);
+          rulings = now (rulings .exit);
+          shares = now (shares .exit);
+          free = now (free .exit);
           chosen = now (chosen .exit);
-        })
-        (r .number) (r .sets) (r .tables) (r .free) ⌝ }
+          parents = now (parents .exit);
+          work = now (work .exit);
+          keys = now (keys .exit);
+        }) r ⌝ }
 {
     tables::tables(
         xheight,

@@ -13,7 +13,7 @@ use Rattle.rects.specs.Rects.{count}
 use Rattle.layout.specs.Level.{Levelling}
 use Rattle.params.specs.Limits.{IsLimit, acrossLimit, gapLimit, alignSetting, alignLimit}
 use Rattle.ink.specs.Ink.{inkAt}
-use Rattle.segments.specs.Contract as Segments
+use Rattle.segments.specs.Call as Segments
 use Rattle.tables.specs.Call as Tables
 use Rattle.boxes.specs.Limits.{limitsOf}
 use Rattle.boxes.specs.Boxes.{EveryBox}

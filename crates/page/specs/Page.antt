@@ -8,7 +8,7 @@ use Rattle.layout.specs.declared.sides.Sides.{Sides}
 use Rattle.layout.specs.Level.{levelled}
 use Rattle.params.specs.declared.settings.RulingsParams.{RulingsParams}
 use Rattle.params.specs.declared.settings.FusionParams.{FusionParams}
-use Rattle.segments.specs.Contract as Segments
+use Rattle.segments.specs.Call as Segments
 use Rattle.segments.specs.Rulings.{rectanglesOf, directionsOf, contrastsOf}
 use Rattle.segments.specs.Printed.{printedPlaces, faintPlaces}
 use Rattle.shapes.specs.declared.limits.Limits.{Limits}

@@ -16,7 +16,7 @@ use Rattle.params.specs.Settled.{Settled}
 use Rattle.segments.specs.Steps as Segments
 use Rattle.segments.specs.Printed.{SplitByContrast}
 use Rattle.meeting.specs.Steps as Meeting
-use Rattle.tables.specs.Call as Tables
+use Rattle.tables.specs.Steps as Tables
 use Rattle.stages.specs.Steps.{PartsLong}
 use Rattle.page.specs.Page as Page
 use Rattle.page.specs.Page.{Page}

@@ -6,7 +6,7 @@ use lib.ListN.{length}
 use Rattle.sets.specs.Listing.{ReadAs}
 use Rattle.questions.specs.Questions.{firstMissed}
 use Rattle.rects.specs.Rects.{count, AllInside}
-use Rattle.segments.specs.Contract.{AllNear}
+use Rattle.segments.specs.Call.{AllNear}
 use Rattle.grids.specs.Reading.{readingOrder}
 use Rattle.page.specs.declared.counts.Counts.{Counts}
 use Rattle.page.specs.Page as Page

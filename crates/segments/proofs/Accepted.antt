@@ -1,10 +1,9 @@
 -- What a page is once its questions were answered yes.
-use mathlib.Core.Path.{_≡_}
-use mathlib.Core.Bool.{Bool, true, _&&_}
-use mathlib.Core.List.{List, [], _∷_}
+use mathlib.Core.Path.{_≡_, refl, ap, _∙_}
+use mathlib.Core.Bool.{Bool, true, false, _&&_}
+use mathlib.Core.List.{List, [], _∷_, _++_}
 use Prim.Native.Nat.{ℕ, _*_, _≤_}
 use lib.Dec.{leb, eqb}
-use lib.Ieee.{Float}
 use lib.ListN.{length}
 use borrow.Author.Tests.{leb-true, eqb-true}
 use Rattle.lists.proofs.Every.{and-first, and-second}
@@ -13,60 +12,33 @@ use Rattle.questions.proofs.FirstMissed.{all-yes, none-missed, yes-parts}
 use Rattle.rects.specs.Rects.{count}
 use Rattle.rects.proofs.Questions.{count-says, all-inside-says}
 use Rattle.layout.proofs.Answers.{sides-say}
-use Rattle.params.specs.declared.settings.RulingsParams.{RulingsParams}
 use Rattle.params.specs.Scan.{xheightQuestions}
 use Rattle.params.specs.Settings.{settingsQuestions}
 use Rattle.params.specs.Settled.{Settled}
-use Rattle.segments.specs.Contract.{answersFit, workFits, roomFits, segmentsQuestions}
-use Rattle.segments.specs.Steps.{WorkRoom, Ready}
+use Rattle.segments.specs.Call.{Given, Lent, hasRoom, questions}
+use Rattle.segments.specs.Steps.{inputQuestions, answersFit, workFits, WorkRoom, Ready}
 
 -- ---- question 14
 
-module _ (w h n raster rects directions contrasts members ends : ℕ) (t : answersFit w h n raster rects directions contrasts members ends ≡ true) where
-  abbrev a0 : Bool
-  a0 = eqb raster (w * h)
-
-  abbrev a1 : Bool
-  a1 = a0 && leb (4 * n) rects
-
-  abbrev a2 : Bool
-  a2 = a1 && leb n directions
-
-  abbrev a3 : Bool
-  a3 = a2 && leb n contrasts
-
-  abbrev a4 : Bool
-  a4 = a3 && leb n members
-
-  t4 : a4 ≡ true
-  t4 = and-first a4 (leb n ends) t
-
-  t3 : a3 ≡ true
-  t3 = and-first a3 (leb n members) t4
-
-  t2 : a2 ≡ true
-  t2 = and-first a2 (leb n contrasts) t3
-
-  t1 : a1 ≡ true
-  t1 = and-first a1 (leb n directions) t2
-
-  fit-raster : raster ≡ w * h
-  fit-raster = eqb-true raster (w * h) (and-first a0 (leb (4 * n) rects) t1)
-
-  fit-rects : 4 * n ≤ rects
-  fit-rects = leb-true (4 * n) rects (and-second a0 (leb (4 * n) rects) t1)
-
-  fit-directions : n ≤ directions
-  fit-directions = leb-true n directions (and-second a1 (leb n directions) t2)
-
-  fit-contrasts : n ≤ contrasts
-  fit-contrasts = leb-true n contrasts (and-second a2 (leb n contrasts) t3)
-
-  fit-members : n ≤ members
-  fit-members = leb-true n members (and-second a3 (leb n members) t4)
-
-  fit-ends : n ≤ ends
-  fit-ends = leb-true n ends (and-second a4 (leb n ends) t)
+answers-say : (w h n raster rects directions contrasts members ends : ℕ) → answersFit w h n raster rects directions contrasts members ends ≡ true
+    → (raster ≡ w * h) × (4 * n ≤ rects) × (n ≤ directions) × (n ≤ contrasts) × (n ≤ members) × (n ≤ ends)
+answers-say w h n raster rects directions contrasts members ends t =
+    let a0 = eqb raster (w * h) in
+    let a1 = a0 && leb (4 * n) rects in
+    let a2 = a1 && leb n directions in
+    let a3 = a2 && leb n contrasts in
+    let a4 = a3 && leb n members in
+    let t4 : a4 ≡ true = and-first a4 (leb n ends) t in
+    let t3 : a3 ≡ true = and-first a3 (leb n members) t4 in
+    let t2 : a2 ≡ true = and-first a2 (leb n contrasts) t3 in
+    let t1 : a1 ≡ true = and-first a1 (leb n directions) t2 in (
+      eqb-true raster (w * h) (and-first a0 (leb (4 * n) rects) t1),
+      leb-true (4 * n) rects (and-second a0 (leb (4 * n) rects) t1),
+      leb-true n directions (and-second a1 (leb n directions) t2),
+      leb-true n contrasts (and-second a2 (leb n contrasts) t3),
+      leb-true n members (and-second a3 (leb n members) t4),
+      leb-true n ends (and-second a4 (leb n ends) t),
+    )
 
 work-says : (ps ls le ws ks : List ℕ) (n : ℕ) → workFits n (length ps) (length ls) (length le) (length ws) (length ks) ≡ true → WorkRoom n ps ls le ws ks
 work-says ps ls le ws ks n t =
@@ -85,35 +57,52 @@ work-says ps ls le ws ks n t =
       keys = leb-true n (length ks) (and-second b3 (leb n (length ks)) t);
     }
 
--- ---- what the questions say of the settings
+-- ---- the call's questions
 
-pub settled : (w h : ℕ) (xheight : Float) (pieces : List ℕ) (p : RulingsParams) (room : Bool) → firstMissed (segmentsQuestions w h xheight pieces p room) ≡ 0 → Settled p xheight
-settled w h xheight pieces p room none =
-    let y = all-yes (segmentsQuestions w h xheight pieces p room) tt none in
-    record {
-      settings = none-missed (settingsQuestions p) (yes-parts (settingsQuestions p) ((14, room) ∷ []) (y .1 .1 .1 .1) .0);
-      xheight-passed = none-missed (xheightQuestions xheight) (y .1 .0, tt);
-    }
+module _ (g : Given) (l : Lent) where
+  abbrev n : ℕ
+  n = count (g .pieces)
 
--- ---- what the core is given
+  -- question 14 by the lengths of the lists
+  abbrev answers : Bool
+  answers = answersFit (g .w) (g .h) n (length (g .raster)) (length (l .rects)) (length (l .directions)) (length (l .contrasts)) (length (l .piece-members)) (length (l .piece-ends))
 
-pub ready : (raster : List ℕ) (w h : ℕ) (xheight : Float) (pieces : List ℕ) (p : RulingsParams) (rs ds : List ℕ) (cs : List Float) (ms es ps ls le ws ks : List ℕ)
-    → firstMissed (segmentsQuestions w h xheight pieces p
-    (roomFits w h (count pieces) (length raster) (length rs) (length ds) (length cs) (length ms) (length es) (length ps) (length ls) (length le) (length ws) (length ks))) ≡ 0
-    → Ready raster w h pieces rs ds cs ms es ps ls le ws ks
-ready raster w h xheight pieces p rs ds cs ms es ps ls le ws ks none =
-    let n = count pieces in
-    let fits = answersFit w h n (length raster) (length rs) (length ds) (length cs) (length ms) (length es) in
-    let holds = workFits n (length ps) (length ls) (length le) (length ws) (length ks) in
-    let yes = all-yes (segmentsQuestions w h xheight pieces p (fits && holds)) tt none in
-    let sides = sides-say w h (yes .0) in
-    let room : fits && holds ≡ true = yes .1 .1 .1 .1 .1 .1 .1 .1 .1 .1 .0 in
-    let first = and-first fits holds room in
-    record {
-      picture = record { full = fit-raster w h n (length raster) (length rs) (length ds) (length cs) (length ms) (length es) first; narrow = sides .0; low = sides .1; inside = all-inside-says w h pieces (yes .1 .1 .1 .0) };
-      few = count-says 4096 pieces (yes .1 .1 .0) .1;
-      rulings = record { rects = fit-rects w h n (length raster) (length rs) (length ds) (length cs) (length ms) (length es) first; directions = fit-directions w h n (length raster) (length rs) (length ds) (length cs) (length ms) (length es) first; contrasts = fit-contrasts w h n (length raster) (length rs) (length ds) (length cs) (length ms) (length es) first };
-      members = fit-members w h n (length raster) (length rs) (length ds) (length cs) (length ms) (length es) first;
-      ends = fit-ends w h n (length raster) (length rs) (length ds) (length cs) (length ms) (length es) first;
-      work = work-says ps ls le ws ks n (and-second fits holds room);
-    }
+  abbrev work : Bool
+  work = workFits n (length (l .parents)) (length (l .listed)) (length (l .listed-ends)) (length (l .work)) (length (l .keys))
+
+  room-is : answers && work ≡ hasRoom g l
+  room-is = flat answers (leb n (length (l .parents))) (leb n (length (l .listed))) (leb n (length (l .listed-ends))) (leb n (length (l .work))) (leb n (length (l .keys)))
+    where
+      flat : (a b c d e f : Bool) → a && (b && c && d && e && f) ≡ a && b && c && d && e && f
+      flat true b c d e f = refl
+      flat false b c d e f = refl
+
+  pub asked : {q : ℕ} → q ≡ firstMissed (inputQuestions (g .w) (g .h) (g .xheight) (g .pieces) (g .settings) ++ (14, answers && work) ∷ [])
+      → q ≡ firstMissed (questions g l)
+  asked e = e ∙ ap (λ (b : Bool). firstMissed (inputQuestions (g .w) (g .h) (g .xheight) (g .pieces) (g .settings) ++ (14, b) ∷ [])) room-is
+
+  -- what the questions say of the settings
+  pub settled : firstMissed (questions g l) ≡ 0 → Settled (g .settings) (g .xheight)
+  settled none =
+      let y = all-yes (questions g l) tt none in
+      record {
+        settings = none-missed (settingsQuestions (g .settings)) (yes-parts (settingsQuestions (g .settings)) ((14, hasRoom g l) ∷ []) (y .1 .1 .1 .1) .0);
+        xheight-passed = none-missed (xheightQuestions (g .xheight)) (y .1 .0, tt);
+      }
+
+  -- what the core is given
+  pub ready : firstMissed (questions g l) ≡ 0
+      → Ready (g .raster) (g .w) (g .h) (g .pieces) (l .rects) (l .directions) (l .contrasts) (l .piece-members) (l .piece-ends) (l .parents) (l .listed) (l .listed-ends) (l .work) (l .keys)
+  ready none =
+      let yes = all-yes (questions g l) tt none in
+      let sides = sides-say (g .w) (g .h) (yes .0) in
+      let room : answers && work ≡ true = room-is ∙ yes .1 .1 .1 .1 .1 .1 .1 .1 .1 .1 .0 in
+      let A = answers-say (g .w) (g .h) n (length (g .raster)) (length (l .rects)) (length (l .directions)) (length (l .contrasts)) (length (l .piece-members)) (length (l .piece-ends)) (and-first answers work room) in
+      record {
+        picture = record { full = A .0; narrow = sides .0; low = sides .1; inside = all-inside-says (g .w) (g .h) (g .pieces) (yes .1 .1 .1 .0) };
+        few = count-says 4096 (g .pieces) (yes .1 .1 .0) .1;
+        rulings = record { rects = A .1; directions = A .2; contrasts = A .3 };
+        members = A .4;
+        ends = A .5;
+        work = work-says (l .parents) (l .listed) (l .listed-ends) (l .work) (l .keys) n (and-second answers work room);
+      }

@@ -24,7 +24,7 @@ use Rattle.rects.proofs.Around.{around-smallest, around-inside}
 use Rattle.rects.specs.Rects.{Inside}
 use Rattle.pieces.specs.Pieces.{horizontal, touch, Touch}
 use Rattle.segments.specs.Rulings.{pieceSets, keyOf, keysOf, rulingSets, directionOf, directionNumber, StandsBefore}
-use Rattle.segments.specs.Contract.{Demand3, InOrder}
+use Rattle.segments.specs.Call.{Demand3, InOrder}
 use Rattle.pieces.proofs.Touching.{touching-agrees}
 use Rattle.segments.proofs.Order.{key-orders, key-tells, size-sorted}
 

@@ -1,6 +1,6 @@
--- What a reader must believe of `segments`: the rulings that closed sets of pieces make, and what the call promises. `Steps` only its
--- inner functions cite.
+-- What a reader must believe of `segments`: the rulings that closed sets of pieces make, and what the call promises. `Steps` is not needed to read
+-- the contracts.
 pub mod Rulings
 pub mod Printed
-pub mod Contract
+pub mod Call
 pub mod Steps

@@ -33,7 +33,7 @@ unfoldable pub rulingSets : List ℕ → ℕ → ℕ → List (List ℕ)
 rulingSets pieces across gap =
     let ss = pieceSets pieces across gap in map (λ k. getD ss k []) (sortedIndexes (keysOf pieces ss))
 
--- The direction of a set of pieces: that of its first one, and so of each (`Segments`' field `direction`).
+-- The direction of a set of pieces: that of its first one, and so of each (`Demand3`'s field `direction`).
 abbrev pub directionOf : List ℕ → List ℕ → Bool
 directionOf pieces s = horizontal (rectAt pieces (getD s 0 0))
 

@@ -1,18 +1,40 @@
 -- What the functions under `segments` say to each other; none of it is needed to read the call's contract.
 use Prim.Native.Nat.{ℕ, _+_, _*_, _^_, _≤_, _<_}
 use mathlib.Core.Path.{_≡_}
-use mathlib.Core.Bool.{Bool, cond}
-use mathlib.Core.List.{List, [], map}
+use mathlib.Core.Bool.{Bool, _&&_}
+use mathlib.Core.List.{List, [], _∷_, map}
+use lib.Dec.{leb, eqb}
 use lib.Ieee.{Float}
 use lib.ListN.{length, getD}
 use lib.Seq.{sets}
 use Rattle.lists.specs.Lists.{In, below, concat, written}
 use Rattle.sets.specs.Listing.{membersOf, endsFrom, ReadAs}
 use Rattle.order.specs.Order.{sortedIndexes}
-use Rattle.rects.specs.declared.Rect.{Rect}
-use Rattle.rects.specs.Rects.{count, AllInside}
+use Rattle.questions.specs.Questions.{Question}
+use Rattle.rects.specs.Rects.{count, AllInside, countFits, allInside}
+use Rattle.layout.specs.Sides.{levelledSidesFit}
+use Rattle.params.specs.declared.settings.RulingsParams.{RulingsParams}
+use Rattle.params.specs.Scan.{xheightInRange}
+use Rattle.params.specs.Settings.{settingsQuestions}
 use Rattle.segments.specs.declared.ruling.Ruling.{Ruling}
 use Rattle.segments.specs.Rulings.{keysOf, rulingOf, Near, rectanglesOf, directionsOf, contrastsOf}
+
+-- The call's questions before 14.
+abbrev pub inputQuestions : ℕ → ℕ → Float → List ℕ → RulingsParams → List Question
+inputQuestions w h xheight pieces p =
+    (1, levelledSidesFit w h)
+    ∷ (2, xheightInRange xheight)
+    ∷ (5, countFits 4096 pieces)
+    ∷ (6, allInside w h pieces)
+    ∷ settingsQuestions p
+
+-- Question 14 by the lengths of the lists: of those that are written, and of the work lists.
+abbrev pub answersFit : ℕ → ℕ → ℕ → ℕ → ℕ → ℕ → ℕ → ℕ → ℕ → Bool
+answersFit w h n raster rects directions contrasts members ends =
+    eqb raster (w * h) && leb (4 * n) rects && leb n directions && leb n contrasts && leb n members && leb n ends
+
+abbrev pub workFits : ℕ → ℕ → ℕ → ℕ → ℕ → ℕ → Bool
+workFits n parents listed listed-ends work keys = leb n parents && leb n listed && leb n listed-ends && leb n work && leb n keys
 
 -- Each of the first n parts of a listing has a member, and its members are pieces.
 pub record Parts (pieces ms es : List ℕ) (n : ℕ) : Type 0 where
@@ -53,7 +75,8 @@ pub record RulingMade (raster : List ℕ) (w h : ℕ) (pieces s : List ℕ) (r :
   pub near : NearOwn raster w h pieces s
 
 -- The rulings of some sets were written from the front of three lists.
-pub record Described (raster : List ℕ) (w h : ℕ) (pieces : List ℕ) (ss : List (List ℕ)) (rs ds : List ℕ) (cs : List Float) (rs′ ds′ : List ℕ) (cs′ : List Float) : Type 0 where
+pub record Described (raster : List ℕ) (w h : ℕ) (pieces : List ℕ) (ss : List (List ℕ)) (rs ds : List ℕ) (cs : List Float)
+    (rs′ ds′ : List ℕ) (cs′ : List Float) : Type 0 where
   pub rects : rs′ ≡ written (rectanglesOf pieces ss) rs
   pub directions : ds′ ≡ written (directionsOf pieces ss) ds
   pub contrasts : cs′ ≡ written (contrastsOf raster w h pieces ss) cs
@@ -102,7 +125,8 @@ pub record Ready (raster : List ℕ) (w h : ℕ) (pieces : List ℕ) (rs ds : Li
 
 -- The rulings of some sets were written, and the sets with them; there are no more rulings than pieces, and the lists give
 -- each set back.
-pub record Made (raster : List ℕ) (w h : ℕ) (pieces : List ℕ) (ss : List (List ℕ)) (rs ds : List ℕ) (cs : List Float) (ms es rs′ ds′ : List ℕ) (cs′ : List Float) (ms′ es′ : List ℕ) (r : ℕ) : Type 0 where
+pub record Made (raster : List ℕ) (w h : ℕ) (pieces : List ℕ) (ss : List (List ℕ)) (rs ds : List ℕ) (cs : List Float)
+    (ms es rs′ ds′ : List ℕ) (cs′ : List Float) (ms′ es′ : List ℕ) (r : ℕ) : Type 0 where
   pub few : r ≤ count pieces
   pub count : r ≡ length ss
   pub described : Described raster w h pieces ss rs ds cs rs′ ds′ cs′

@@ -1,10 +1,11 @@
 // The questions that `segments` asks.
 ghost use mathlib.Core.Path.{_≡_};
+ghost use mathlib.Core.Bool.{_&&_};
+ghost use mathlib.Core.List.{[], _∷_, _++_};
 ghost use Prim.Native.Nat.{_*_, _≤_, _<_, _^_};
-ghost use lib.ListN.{length};
 ghost use Rattle.questions.specs.Questions.{firstMissed};
 ghost use Rattle.rects.specs.Rects.{count};
-ghost use Rattle.segments.specs.Contract.{answersFit, workFits, roomFits, inputQuestions, segmentsQuestions};
+ghost use Rattle.segments.specs.Steps.{inputQuestions, answersFit, workFits};
 use params::settings::RulingsParams;
 
 // Questions 1, 2, 5, 6, 7 to 11 and 13.
@@ -88,7 +89,12 @@ pub fn missed(
     keys: usize,
 ) -> u32
     ensures { λ q.
-        ⌜ q ≡ firstMissed (segmentsQuestions w h xheight (now (pieces .entry)) p (roomFits w h (count (now (pieces .entry))) raster rects directions contrasts members ends parents listed «listed_ends» work keys)) ⌝ }
+        ⌜ q ≡ firstMissed (inputQuestions w h xheight (now (pieces .entry)) p
+        ++ (
+          14,
+          answersFit w h (count (now (pieces .entry))) raster rects directions contrasts members ends
+              && workFits (count (now (pieces .entry))) parents listed «listed_ends» work keys,
+        ) ∷ []) ⌝ }
 {
     let number = missed_by_input(w, h, xheight, pieces, p);
     if number != 0 {

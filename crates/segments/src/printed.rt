@@ -22,7 +22,8 @@ pub struct Parted {
 // Lists the places of the printed rulings and those of the faint ones.
 pub fn split(p: RulingsParams, contrasts: &[f64], printed: &mut [u32], faint: &mut [u32]) -> Parted
     requires { ⌜ RoomForPlaces (now contrasts) (now printed) (now faint) ⌝ }
-    ensures { λ r. ⌜ SplitByContrast p (now (contrasts .entry)) (now (printed .entry)) (now (faint .entry)) (now (printed .exit)) (now (faint .exit)) (r .printed) (r .faint) ⌝ }
+    ensures { λ r. ⌜ SplitByContrast p (now (contrasts .entry)) (now (printed .entry)) (now (faint .entry))
+        (now (printed .exit)) (now (faint .exit)) (r .printed) (r .faint) ⌝ }
 {
     let mut dark = 0;
     let mut pale = 0;

@@ -1,8 +1,6 @@
 // The call: pieces to rulings.
-ghost use lib.ListN.{length};
-ghost use Rattle.rects.specs.Rects.{count};
 ghost use Rattle.segments.specs.Rulings.{rulingSets};
-ghost use Rattle.segments.specs.Contract.{roomFits, Segments};
+ghost use Rattle.segments.specs.Call.{Segments};
 ghost use Rattle.segments.specs.Steps.{Ready, Made};
 use params::settings::RulingsParams;
 
@@ -32,7 +30,8 @@ pub fn rulings(
     work: &mut [u32],
     keys: &mut [u64],
 ) -> usize
-    requires { ⌜ Ready (now raster) w h (now pieces) (now rects) (now directions) (now contrasts) (now members) (now ends) (now parents) (now listed) (now «listed_ends») (now work) (now keys) ⌝ }
+    requires { ⌜ Ready (now raster) w h (now pieces) (now rects) (now directions) (now contrasts)
+        (now members) (now ends) (now parents) (now listed) (now «listed_ends») (now work) (now keys) ⌝ }
     ensures { λ r.
         ⌜ Made (now (raster .entry)) w h (now (pieces .entry)) (rulingSets (now (pieces .entry)) across gap)
         (now (rects .entry)) (now (directions .entry)) (now (contrasts .entry)) (now (members .entry)) (now (ends .entry))
@@ -83,15 +82,38 @@ pub fn segments(
     work: &mut [u32],
     keys: &mut [u64],
 ) -> Answer
-    ensures { λ r.
-        ⌜ Segments (now (raster .entry)) w h xheight (now (pieces .entry)) p
-        (roomFits w h (count (now (pieces .entry))) (length (now (raster .entry)))
-        (length (now (rects .entry))) (length (now (directions .entry))) (length (now (contrasts .entry))) (length (now (members .entry))) (length (now (ends .entry)))
-        (length (now (parents .entry))) (length (now (listed .entry))) (length (now («listed_ends» .entry))) (length (now (work .entry))) (length (now (keys .entry))))
-        (now (rects .entry)) (now (directions .entry)) (now (contrasts .entry)) (now (members .entry)) (now (ends .entry))
-        (now (parents .entry)) (now (listed .entry)) (now («listed_ends» .entry)) (now (work .entry)) (now (keys .entry))
-        (now (rects .exit)) (now (directions .exit)) (now (contrasts .exit)) (now (members .exit)) (now (ends .exit))
-        (now (parents .exit)) (now (listed .exit)) (now («listed_ends» .exit)) (now (work .exit)) (now (keys .exit)) (r .number) (r .count) ⌝ }
+    ensures { λ r. ⌜ Segments (record {
+      raster = now (raster .entry);
+      w = w;
+      h = h;
+      xheight = xheight;
+      settings = p;
+      pieces = now (pieces .entry);
+    })
+        (record {
+          rects = now (rects .entry);
+          directions = now (directions .entry);
+          contrasts = now (contrasts .entry);
+          piece-members = now (members .entry);
+          piece-ends = now (ends .entry);
+          parents = now (parents .entry);
+          listed = now (listed .entry);
+          listed-ends = now («listed_ends» .entry);
+          work = now (work .entry);
+          keys = now (keys .entry);
+        })
+        (record {
+          rects = now (rects .exit);
+          directions = now (directions .exit);
+          contrasts = now (contrasts .exit);
+          piece-members = now (members .exit);
+          piece-ends = now (ends .exit);
+          parents = now (parents .exit);
+          listed = now (listed .exit);
+          listed-ends = now («listed_ends» .exit);
+          work = now (work .exit);
+          keys = now (keys .exit);
+        }) r ⌝ }
 {
     let number = crate::guard::missed(
         w,

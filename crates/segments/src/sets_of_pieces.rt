@@ -17,9 +17,11 @@ pub fn list_sets(
     listed_ends: &mut [u32],
     work: &mut [u32],
 ) -> usize
-    requires { ⌜ AllOrdered (now pieces) × Room (count (now pieces)) (now parents) × (count (now pieces) ≤ length (now listed)) × (count (now pieces) ≤ length (now «listed_ends»)) × (count (now pieces) ≤ length (now work)) ⌝ }
+    requires { ⌜ AllOrdered (now pieces) × Room (count (now pieces)) (now parents) × (count (now pieces) ≤ length (now listed))
+        × (count (now pieces) ≤ length (now «listed_ends»)) × (count (now pieces) ≤ length (now work)) ⌝ }
     ensures { λ r.
-        ⌜ SetsListed (pieceSets (now (pieces .entry)) across gap) (count (now (pieces .entry))) (now (listed .entry)) (now («listed_ends» .entry)) (now (listed .exit)) (now («listed_ends» .exit)) r ⌝ }
+        ⌜ SetsListed (pieceSets (now (pieces .entry)) across gap) (count (now (pieces .entry)))
+        (now (listed .entry)) (now («listed_ends» .entry)) (now (listed .exit)) (now («listed_ends» .exit)) r ⌝ }
 {
     pieces::touch::join_all(pieces, across, gap, parents);
     sets::list(parents, pieces.len() / 4, listed, listed_ends, work)
@@ -35,7 +37,8 @@ pub fn order_sets(
     work: &mut [u32],
     keys: &mut [u64],
 )
-    requires { ⌜ AllInside 8192 8192 (now pieces) × Parts (now pieces) (now listed) (now «listed_ends») count × (count < 2 ^ 32) × (count ≤ length (now order)) × (count ≤ length (now work)) × (count ≤ length (now keys)) ⌝ }
+    requires { ⌜ AllInside 8192 8192 (now pieces) × Parts (now pieces) (now listed) (now «listed_ends») count
+        × (count < 2 ^ 32) × (count ≤ length (now order)) × (count ≤ length (now work)) × (count ≤ length (now keys)) ⌝ }
     ensures { λ _.
         ⌜ SetsOrdered (now (pieces .entry)) (now (listed .entry)) (now («listed_ends» .entry)) count (now (order .entry)) (now (order .exit)) ⌝ }
 {

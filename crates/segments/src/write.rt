@@ -30,7 +30,8 @@ pub fn write_sets(
 )
     requires { ⌜ (count ≤ length (now order)) × RoomForSets (inOrder (now listed) (now «listed_ends») count (now order)) (now members) (now ends) ⌝ }
     ensures { λ _.
-        ⌜ Strung (inOrder (now (listed .entry)) (now («listed_ends» .entry)) count (now (order .entry))) (now (members .entry)) (now (ends .entry)) (now (members .exit)) (now (ends .exit)) ⌝ }
+        ⌜ Strung (inOrder (now (listed .entry)) (now («listed_ends» .entry)) count (now (order .entry)))
+        (now (members .entry)) (now (ends .entry)) (now (members .exit)) (now (ends .exit)) ⌝ }
 {
     let mut at = 0;
     let mut place = 0;
@@ -55,7 +56,8 @@ pub fn write_rulings(
     directions: &mut [u32],
     contrasts: &mut [f64],
 )
-    requires { ⌜ Picture (now raster) w h (now pieces) × Parts (now pieces) (now members) (now ends) count × RoomForRulings count (now rects) (now directions) (now contrasts) ⌝ }
+    requires { ⌜ Picture (now raster) w h (now pieces) × Parts (now pieces) (now members) (now ends) count
+        × RoomForRulings count (now rects) (now directions) (now contrasts) ⌝ }
     ensures { λ _.
         ⌜ Described (now (raster .entry)) w h (now (pieces .entry)) (partsOf (now (members .entry)) (now (ends .entry)) count)
         (now (rects .entry)) (now (directions .entry)) (now (contrasts .entry)) (now (rects .exit)) (now (directions .exit)) (now (contrasts .exit)) ⌝ }

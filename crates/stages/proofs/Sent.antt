@@ -11,7 +11,7 @@ use Rattle.segments.specs.Rulings.{rulingSets}
 use Rattle.segments.specs.Steps.{Made}
 use Rattle.segments.specs.Printed.{SplitByContrast}
 use Rattle.shapes.specs.declared.limits.Limits.{Limits}
-use Rattle.tables.specs.Call.{Lists, Filled, Roomy}
+use Rattle.tables.specs.Steps.{Lists, Filled, Roomy}
 use Rattle.boxes.specs.declared.limits.Limits as BoxLimits
 use Rattle.boxes.specs.Steps as Boxes
 use Rattle.grids.specs.Call.{Lent}

@@ -4,7 +4,7 @@ ghost use lib.ListN.{length, take};
 ghost use Rattle.params.specs.Settled.{Settled};
 ghost use Rattle.meeting.specs.Steps.{Given};
 ghost use Rattle.shapes.specs.Limits.{limitsOf};
-ghost use Rattle.tables.specs.Call.{Filled, Roomy};
+ghost use Rattle.tables.specs.Steps.{Filled, Roomy};
 ghost use Rattle.page.specs.Lent.{listAt};
 ghost use Rattle.stages.specs.Bundles.{Only, Kept};
 ghost use Rattle.stages.specs.Steps.{PartsLong};

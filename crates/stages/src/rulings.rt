@@ -2,7 +2,7 @@
 ghost use Prim.Native.Nat.{_≤_};
 ghost use lib.ListN.{length, take};
 ghost use Rattle.params.specs.Settled.{Settled};
-ghost use Rattle.segments.specs.Contract.{setsOf};
+ghost use Rattle.segments.specs.Call.{setsOf};
 ghost use Rattle.segments.specs.Printed.{SplitByContrast};
 ghost use Rattle.segments.specs.Steps.{Ready, Made, RoomForPlaces};
 ghost use Rattle.page.specs.Lent.{listAt};

@@ -1,4 +1,4 @@
--- What the steps of `table_lists` ask and leave.
+-- What the steps of `table_lists` ask and leave; none of it is needed to read the contract of `tables`.
 use mathlib.Core.Path.{_≡_}
 use mathlib.Core.List.{List, map}
 use Prim.Native.Nat.{ℕ, _≤_, _<_}
@@ -54,6 +54,7 @@ pub record Measured (join : ℕ) (s : ℕ → Segment) (set : ℕ → List ℕ) 
   pub shares : sh′ ≡ written (map (λ k. shareOf join s (set k)) numbers) sh
 
 -- Rectangles, sizes and joined shares of the sets with the given numbers were written.
-pub record Described (join : ℕ) (rects directions chosen : List ℕ) (set : ℕ → List ℕ) (numbers bo ru : List ℕ) (sh : List Float) (bo′ ru′ : List ℕ) (sh′ : List Float) : Type 0 where
+pub record Described (join : ℕ) (rects directions chosen : List ℕ) (set : ℕ → List ℕ) (numbers bo ru : List ℕ) (sh : List Float)
+    (bo′ ru′ : List ℕ) (sh′ : List Float) : Type 0 where
   pub bounded : Bounded rects chosen set numbers bo bo′
   pub measured : Measured join (rulingAt rects directions chosen) set numbers ru sh ru′ sh′

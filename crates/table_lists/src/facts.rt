@@ -50,8 +50,10 @@ pub fn choose(
     free: &mut [u32],
 ) -> Found
     requires { ⌜ Given (now rects) (now directions) (now chosen) × SetsIn (length (now chosen)) (membersOf (now members) (now ends) count) count ⌝ }
-    requires { ⌜ Rooms (length (now chosen)) (length (now keys)) (length (now order)) (length (now work)) (length (now numbers)) (length (now rows)) (length (now columns)) (length (now free)) ⌝ }
-    ensures { λ r. ⌜ Chose limits (rulingAt (now (rects .entry)) (now (directions .entry)) (now (chosen .entry))) (membersOf (now (members .entry)) (now (ends .entry)) count) count
+    requires { ⌜ Rooms (length (now chosen)) (length (now keys)) (length (now order)) (length (now work))
+        (length (now numbers)) (length (now rows)) (length (now columns)) (length (now free)) ⌝ }
+    ensures { λ r. ⌜ Chose limits (rulingAt (now (rects .entry)) (now (directions .entry)) (now (chosen .entry)))
+        (membersOf (now (members .entry)) (now (ends .entry)) count) count
         (now (numbers .entry)) (now (rows .entry)) (now (columns .entry)) (now (free .entry))
         (now (numbers .exit)) (now (rows .exit)) (now (columns .exit)) (now (free .exit)) (r .tables) (r .free) ⌝ }
 {
@@ -102,8 +104,11 @@ pub fn bound(
     tables: usize,
     out: &mut [u32],
 )
-    requires { ⌜ Given (now rects) (now directions) (now chosen) × SetsIn (length (now chosen)) (membersOf (now members) (now ends) count) count × Numbers (now numbers) tables count × (4 * tables ≤ length (now out)) ⌝ }
-    ensures { λ _. ⌜ Bounded (now (rects .entry)) (now (chosen .entry)) (membersOf (now (members .entry)) (now (ends .entry)) count) (take tables (now (numbers .entry))) (now (out .entry)) (now (out .exit)) ⌝ }
+    requires { ⌜ Given (now rects) (now directions) (now chosen)
+        × SetsIn (length (now chosen)) (membersOf (now members) (now ends) count) count
+        × Numbers (now numbers) tables count × (4 * tables ≤ length (now out)) ⌝ }
+    ensures { λ _. ⌜ Bounded (now (rects .entry)) (now (chosen .entry))
+        (membersOf (now (members .entry)) (now (ends .entry)) count) (take tables (now (numbers .entry))) (now (out .entry)) (now (out .exit)) ⌝ }
 {
     let mut t = 0;
     while t < tables {
@@ -127,9 +132,11 @@ pub fn measure(
     rulings: &mut [u32],
     shares: &mut [f64],
 )
-    requires { ⌜ (join < 2 ^ 32) × Given (now rects) (now directions) (now chosen) × SetsIn (length (now chosen)) (membersOf (now members) (now ends) count) count × Numbers (now numbers) tables count ⌝ }
+    requires { ⌜ (join < 2 ^ 32) × Given (now rects) (now directions) (now chosen)
+        × SetsIn (length (now chosen)) (membersOf (now members) (now ends) count) count × Numbers (now numbers) tables count ⌝ }
     requires { ⌜ (tables ≤ length (now rulings)) × (tables ≤ length (now shares)) ⌝ }
-    ensures { λ _. ⌜ Measured join (rulingAt (now (rects .entry)) (now (directions .entry)) (now (chosen .entry))) (membersOf (now (members .entry)) (now (ends .entry)) count) (take tables (now (numbers .entry)))
+    ensures { λ _. ⌜ Measured join (rulingAt (now (rects .entry)) (now (directions .entry)) (now (chosen .entry)))
+        (membersOf (now (members .entry)) (now (ends .entry)) count) (take tables (now (numbers .entry)))
         (now (rulings .entry)) (now (shares .entry)) (now (rulings .exit)) (now (shares .exit)) ⌝ }
 {
     let mut t = 0;

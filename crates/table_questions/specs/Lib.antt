@@ -1,2 +1,3 @@
--- What a reader must believe of the questions that `tables` puts.
+-- What a reader must believe of the questions that `tables` puts. `Steps` is not needed to read the contracts.
 pub mod Questions
+pub mod Steps

@@ -16,15 +16,6 @@ use Rattle.rects.specs.Rects.{count, countFits, allInside}
 abbrev pub directionsFit : List ℕ → List ℕ → Bool
 directionsFit rects directions = eqb (length directions) (count rects) && everyBelow (length directions) (λ k. leb (getD directions k 0) 1)
 
--- The lists that tables are written to have room for n of them.
-abbrev pub roomForTables : ℕ → ℕ → ℕ → ℕ → ℕ → ℕ → ℕ → Bool
-roomForTables n numbers rects rows columns rulings shares = leb n numbers && leb n rects && leb n rows && leb n columns && leb n rulings && leb n shares
-
--- The lists of indexes and the work lists have room for n entries.
-abbrev pub roomForIndexes : ℕ → ℕ → ℕ → ℕ → ℕ → ℕ → ℕ → ℕ → Bool
-roomForIndexes n members ends free chosen parents work keys =
-    leb n members && leb n ends && leb n free && leb n chosen && leb n parents && leb n work && leb n keys
-
 -- The questions in order; the last is whether every list has room.
 abbrev pub tableQuestions : Float → RulingsParams → List ℕ → List ℕ → Bool → List Question
 tableQuestions xheight p rects directions room =

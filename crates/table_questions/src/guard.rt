@@ -1,7 +1,8 @@
 // The first missed of the questions, in order.
 ghost use mathlib.Core.Path.{_≡_};
 ghost use Rattle.questions.specs.Questions.{firstMissed};
-ghost use Rattle.table_questions.specs.Questions.{directionsFit, roomForTables, roomForIndexes, tableQuestions};
+ghost use Rattle.table_questions.specs.Questions.{directionsFit, tableQuestions};
+ghost use Rattle.table_questions.specs.Steps.{roomForTables, roomForIndexes};
 use params::settings::RulingsParams;
 
 fn directions_fit(rects: &[u32], directions: &[u32]) -> bool

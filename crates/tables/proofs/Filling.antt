@@ -20,7 +20,8 @@ use Rattle.shapes.specs.Shapes.{isTable}
 use Rattle.table_lists.specs.Answers.{tableNumbers}
 use Rattle.meeting.specs.Steps.{Inside, Connected}
 use Rattle.table_lists.specs.Steps.{SetsIn, Numbers, Chose, Described}
-use Rattle.tables.specs.Call.{setAt, Lists, Filled}
+use Rattle.tables.specs.Call.{setAt}
+use Rattle.tables.specs.Steps.{Lists, Filled}
 use Rattle.table_lists.proofs.Passes.{tables-few}
 
 module _ (join : ℕ) (s : ℕ → Segment) (n : ℕ) {m e m′ e′ : List ℕ} {r : ℕ} (C : Connected join s n m e m′ e′ r) (room : n ≤ length m) (wide : n ≤ length e) where

@@ -5,7 +5,7 @@ ghost use lib.ListN.{length, take};
 ghost use Rattle.sets.specs.Listing.{membersOf};
 ghost use Rattle.meeting.specs.Steps.{Given};
 ghost use Rattle.table_lists.specs.Steps.{SetsIn, Numbers, Described};
-ghost use Rattle.tables.specs.Call.{Filled, Roomy};
+ghost use Rattle.tables.specs.Steps.{Filled, Roomy};
 use meeting::connect;
 use shapes::limits::Limits;
 use table_lists::facts;
@@ -25,9 +25,11 @@ fn describe(
     rulings: &mut [u32],
     shares: &mut [f64],
 )
-    requires { ⌜ (join < 2 ^ 32) × Given (now rects) (now directions) (now chosen) × SetsIn (length (now chosen)) (membersOf (now members) (now ends) count) count × Numbers (now numbers) tables count ⌝ }
+    requires { ⌜ (join < 2 ^ 32) × Given (now rects) (now directions) (now chosen)
+        × SetsIn (length (now chosen)) (membersOf (now members) (now ends) count) count × Numbers (now numbers) tables count ⌝ }
     requires { ⌜ (4 * tables ≤ length (now bounds)) × (tables ≤ length (now rulings)) × (tables ≤ length (now shares)) ⌝ }
-    ensures { λ _. ⌜ Described join (now (rects .entry)) (now (directions .entry)) (now (chosen .entry)) (membersOf (now (members .entry)) (now (ends .entry)) count) (take tables (now (numbers .entry)))
+    ensures { λ _. ⌜ Described join (now (rects .entry)) (now (directions .entry)) (now (chosen .entry))
+        (membersOf (now (members .entry)) (now (ends .entry)) count) (take tables (now (numbers .entry)))
         (now (bounds .entry)) (now (rulings .entry)) (now (shares .entry)) (now (bounds .exit)) (now (rulings .exit)) (now (shares .exit)) ⌝ }
 {
     facts::bound(

@@ -4,9 +4,11 @@ use Prim.Native.Nat.{ℕ, _≤_}
 use native.Mathlib.Omega.{arith}
 use lib.Seq.{length-take-le}
 use Rattle.rects.specs.Rects.{count}
-use Rattle.tables.specs.Call.{Lent, missedBy}
+use Rattle.questions.specs.Questions.{firstMissed}
+use Rattle.tables.specs.Call.{Given, Lent, questions}
+use Rattle.tables.specs.Steps.{listsOf}
 use Rattle.tables.proofs.Passing.{Passed, passed}
-use Rattle.tables.proofs.Accepting.{asked, refused, accepted, all-chosen, join-of, given-all, roomy-all}
+use Rattle.tables.proofs.Accepting.{asked, refused, found, all-chosen, join-of, given-all, roomy-all}
 use borrow.Author.Needs.{needs}
 use Rattle.tables.proofs.tables.Statement.{statement}
 use Rattle.tables.proofs.tables.Tie as tie
@@ -14,27 +16,38 @@ use Rattle.tables.proofs.tables.Tie as tie
 kept-room : {n a b : ℕ} → n ≤ a → b ≡ a → n ≤ b
 kept-room h e = omega arith
 
--- what was lent
+-- what was given, and what was lent
+abbrev given : tie.Start → Given
+given s =
+    let a = s .args in
+    record { xheight = a .xheight; settings = a .p; rects = a .rects .now; directions = a .directions .now }
+
 abbrev lent : tie.Start → Lent
 lent s =
     let a = s .args in
     record {
-      lists = record { members = a .members .now; ends = a .ends .now; numbers = a .numbers .now; bounds = a .bounds .now; rows = a .rows .now; columns = a .columns .now; rulings = a .rulings .now; shares = a .shares .now; free = a .free .now; parents = a .parents .now; work = a .work .now; keys = a .keys .now };
+      printed-members = a .members .now;
+      printed-ends = a .ends .now;
+      numbers = a .numbers .now;
+      bounds = a .bounds .now;
+      rows = a .rows .now;
+      columns = a .columns .now;
+      rulings = a .rulings .now;
+      shares = a .shares .now;
+      free = a .free .now;
       chosen = a .chosen .now;
+      parents = a .parents .now;
+      work = a .work .now;
+      keys = a .keys .now;
     }
 
 -- the number that the guard gave
-number-is : (c : tie.After-missed)
-    → let s = c .before .before .before .before .before .before .before .before .before .before .before .before .before .before .before .before .before .before in c .missed .result ≡ missedBy (s .args .xheight) (s .args .p) (s .args .rects .now) (s .args .directions .now) (lent s)
-number-is c =
-    let s = c .before .before .before .before .before .before .before .before .before .before .before .before .before .before .before .before .before .before in
-    asked (s .args .xheight) (s .args .p) (s .args .rects .now) (s .args .directions .now) (lent s) (c .missed .ensures) (c .before .before .room-for-tables .ensures) (c .before .room-for-indexes .ensures)
+number-is : (c : tie.After-missed) → let s = c .before .before .before .before .before .before .before .before .before .before .before .before .before .before .before .before .before .before in c .missed .result ≡ firstMissed (questions (given s) (lent s))
+number-is c = let s = c .before .before .before .before .before .before .before .before .before .before .before .before .before .before .before .before .before .before in asked (given s) (lent s) (c .missed .ensures) (c .before .before .room-for-tables .ensures) (c .before .room-for-indexes .ensures)
 
 -- what is known once it is 0
-known : (c : tie.Else1) → let s = c .before .before .before .before .before .before .before .before .before .before .before .before .before .before .before .before .before .before .before in Passed (s .args .xheight) (s .args .p) (s .args .rects .now) (s .args .directions .now) (lent s)
-known c =
-    let s = c .before .before .before .before .before .before .before .before .before .before .before .before .before .before .before .before .before .before .before in
-    passed (s .args .xheight) (s .args .p) (s .args .rects .now) (s .args .directions .now) (lent s) (omega (arith, number-is (c .before), c .if1 .left))
+known : (c : tie.Else1) → let s = c .before .before .before .before .before .before .before .before .before .before .before .before .before .before .before .before .before .before .before in Passed (given s) (lent s)
+known c = let s = c .before .before .before .before .before .before .before .before .before .before .before .before .before .before .before .before .before .before .before in passed (given s) (lent s) (omega (arith, number-is (c .before), c .if1 .left))
 
 room-for-tables-requires : tie.Need-room-for-tables-requires
 room-for-tables-requires c κs = search needs
@@ -46,9 +59,7 @@ missed-requires : tie.Need-missed-requires
 missed-requires c κs = search needs
 
 returns : tie.Need-returns
-returns c =
-    let s = c .before .before .before .before .before .before .before .before .before .before .before .before .before .before .before .before .before .before .before in
-    refused (s .args .xheight) (s .args .p) (s .args .rects .now) (s .args .directions .now) (lent s) (number-is (c .before)) (λ z. omega (arith, z, c .if1 .taken))
+returns c = let s = c .before .before .before .before .before .before .before .before .before .before .before .before .before .before .before .before .before .before .before in refused (given s) (lent s) (number-is (c .before)) (λ z. omega (arith, z, c .if1 .taken))
 
 begin-requires : tie.Need-begin-requires
 begin-requires c κs = let P = known (c .before) in record { room = P .chosen; small = omega (arith, P .few) }
@@ -71,7 +82,7 @@ find-requires c κs =
     let n = count (s .args .rects .now) in
     let all = c .before .before .before .before .before .before .before .before .before .before .before .before .before .before .before .before .begin .ensures in (
       (join-of (s .args .p) (s .args .xheight) (c .before .before .before .before .before .before .before .before .before .before .before .before .before .limits-of .ensures) (P .settled), given-all n (s .args .chosen .now) all (P .given)),
-      roomy-all (lent s .lists) (P .roomy) (all-chosen n (s .args .chosen .now) all),
+      roomy-all (listsOf (lent s)) (P .roomy) (all-chosen n (s .args .chosen .now) all),
     )
 
 same-length : tie.Need-same-length
@@ -117,7 +128,7 @@ returns-2 : tie.Need-returns-2
 returns-2 c =
     let s = c .before .before .before .before .before .before .before .before .before .before .before .before .before .before .before .before .before .before .before .before .before .before .before .before .before .before .before .before .before .before .before .before .before .before .before .before .before .before .before .before .before .before .before .before .before .before .before .before .before .before .before .before .before .before .before .before .before .before .before .before .before .before in
     let k = c .before .before .before .before .before .before .before .before .before .before .before .before .before .before .before .before .before .before .before .before .before .before .before .before .before .before .before .before .before .before .before .before .before .before .before .before .before .before .before .before .before .before .before in
-    accepted (s .args .xheight) (s .args .p) (s .args .rects .now) (s .args .directions .now) (lent s) (number-is (k .before)) _ (k .if1 .left) (known k .settled)
+    found (given s) (lent s) (number-is (k .before)) _ (k .if1 .left) (known k .settled)
     (all-chosen (count (s .args .rects .now)) (s .args .chosen .now) (c .before .before .before .before .before .before .before .before .before .before .before .before .before .before .before .before .before .before .before .before .before .before .before .before .before .before .before .before .before .before .before .before .before .before .before .before .before .before .before .before .before .begin .ensures)) (c .before .before .before .before .before .before .before .before .before .before .before .before .before .before .before .before .before .before .before .before .before .before .before .before .before .before .before .before .before .before .before .before .before .before .before .before .before .before .limits-of .ensures) (c .before .before .before .before .before .before .before .before .before .before .before .before .before .before .before .before .before .before .before .before .before .before .before .before .find .ensures)
 
 pub tables-spec : {M : Type 1} → statement M

@@ -11,7 +11,7 @@ use borrow.Author.Tests.{eq-eqb, ne-eqb}
 use Rattle.questions.specs.Questions.{Question, firstMissed}
 use Rattle.questions.proofs.FirstMissed.{numbered, all-yes, in-two-parts}
 use Rattle.rects.specs.Rects.{count}
-use Rattle.segments.specs.Contract.{roomFits, inputQuestions}
+use Rattle.segments.specs.Steps.{inputQuestions, answersFit, workFits}
 use Rattle.layout.proofs.Answers.{sides-say}
 use Rattle.segments.proofs.guard.missed.Statement.{statement}
 use Rattle.segments.proofs.guard.missed.Tie as tie
@@ -29,6 +29,13 @@ room-yes p q t = sym (ap {B = ℕ} (λ (b : Bool). cond b 0 14) (sym (ap₂ _&&_
 room-no : {x y f g : Bool} → x ≡ f → y ≡ g → x && y ≡ false → _≡_ {A = ℕ} 14 (cond (f && g) 0 14)
 room-no p q t = sym (ap {B = ℕ} (λ (b : Bool). cond b 0 14) (sym (ap₂ _&&_ p q) ∙ t))
 
+-- question 14, of the lengths
+abbrev room : tie.Start → Bool
+room c =
+    let a = c .args in
+    let n = count (a .pieces .now) in
+    answersFit (a .w) (a .h) n (a .raster) (a .rects) (a .directions) (a .contrasts) (a .members) (a .ends) && workFits n (a .parents) (a .listed) (a .listed-ends) (a .work) (a .keys)
+
 quarter : (l : ℕ) → l < 2 ^ 64 → 4 * (l / 4) < 2 ^ 64
 quarter l h = omega arith
 
@@ -37,9 +44,9 @@ missed-by-input-requires c κs = search needs
 
 returns : tie.Need-returns
 returns c =
-    let a = c .before .before .before .args in
-    let room = roomFits (a .w) (a .h) (count (a .pieces .now)) (a .raster) (a .rects) (a .directions) (a .contrasts) (a .members) (a .ends) (a .parents) (a .listed) (a .listed-ends) (a .work) (a .keys) in
-    stops (inputQuestions (a .w) (a .h) (a .xheight) (a .pieces .now) (a .p)) ((14, room) ∷ []) tt (c .before .missed-by-input .ensures) (c .if1 .taken)
+    let s = c .before .before .before in
+    let a = s .args in
+    stops (inputQuestions (a .w) (a .h) (a .xheight) (a .pieces .now) (a .p)) ((14, room s) ∷ []) tt (c .before .missed-by-input .ensures) (c .if1 .taken)
 
 answers-fit-requires : tie.Need-answers-fit-requires
 answers-fit-requires c κs =
@@ -52,17 +59,17 @@ work-fits-requires c κs = search needs
 
 returns-2 : tie.Need-returns-2
 returns-2 c =
-    let a = c .before .before .before .before .before .before .args in
-    let room = roomFits (a .w) (a .h) (count (a .pieces .now)) (a .raster) (a .rects) (a .directions) (a .contrasts) (a .members) (a .ends) (a .parents) (a .listed) (a .listed-ends) (a .work) (a .keys) in
+    let s = c .before .before .before .before .before .before in
+    let a = s .args in
     room-yes (c .before .before .answers-fit .ensures) (c .before .work-fits .ensures) (c .if2 .taken)
-    ∙ goes-on (inputQuestions (a .w) (a .h) (a .xheight) (a .pieces .now) (a .p)) ((14, room) ∷ []) tt (c .before .before .before .before .missed-by-input .ensures) (c .before .before .before .if1 .left)
+    ∙ goes-on (inputQuestions (a .w) (a .h) (a .xheight) (a .pieces .now) (a .p)) ((14, room s) ∷ []) tt (c .before .before .before .before .missed-by-input .ensures) (c .before .before .before .if1 .left)
 
 returns-3 : tie.Need-returns-3
 returns-3 c =
-    let a = c .before .before .before .before .before .before .args in
-    let room = roomFits (a .w) (a .h) (count (a .pieces .now)) (a .raster) (a .rects) (a .directions) (a .contrasts) (a .members) (a .ends) (a .parents) (a .listed) (a .listed-ends) (a .work) (a .keys) in
+    let s = c .before .before .before .before .before .before in
+    let a = s .args in
     room-no (c .before .before .answers-fit .ensures) (c .before .work-fits .ensures) (c .if2 .left)
-    ∙ goes-on (inputQuestions (a .w) (a .h) (a .xheight) (a .pieces .now) (a .p)) ((14, room) ∷ []) tt (c .before .before .before .before .missed-by-input .ensures) (c .before .before .before .if1 .left)
+    ∙ goes-on (inputQuestions (a .w) (a .h) (a .xheight) (a .pieces .now) (a .p)) ((14, room s) ∷ []) tt (c .before .before .before .before .missed-by-input .ensures) (c .before .before .before .if1 .left)
 
 pub missed-spec : {M : Type 1} → statement M
 missed-spec =

@@ -1,53 +1,58 @@
 -- `segments::segments` meets its contract: the guard's number, and the core's lists where it is 0. Assumes nothing.
 use mathlib.Core.Path.{_≡_, sym, _∙_}
-use mathlib.Core.Bool.{Bool}
 use borrow.Author.Needs.{needs}
-use lib.ListN.{length}
 use Rattle.params.proofs.Limits.{limits}
-use Rattle.rects.specs.Rects.{count}
-use Rattle.segments.specs.Contract.{roomFits}
-use Rattle.segments.specs.Steps.{Ready}
-use Rattle.segments.proofs.Accepted.{settled, ready}
-use Rattle.segments.proofs.Call.{accepted, refused}
+use Rattle.questions.specs.Questions.{firstMissed}
+use Rattle.segments.specs.Call.{Given, Lent, questions}
+use Rattle.segments.proofs.Accepted.{asked, settled, ready}
+use Rattle.segments.proofs.Call.{passed, refused}
 use Rattle.segments.proofs.segments.segments.Statement.{statement}
 use Rattle.segments.proofs.segments.segments.Tie as tie
 
--- question 14, of the lists as they were lent
-abbrev room : tie.Start → Bool
-room c =
+-- what was given, and what was lent
+abbrev given : tie.Start → Given
+given c =
     let a = c .args in
-    roomFits (a .w) (a .h) (count (a .pieces .now)) (length (a .raster .now)) (length (a .rects .now)) (length (a .directions .now)) (length (a .contrasts .now)) (length (a .members .now)) (length (a .ends .now)) (length (a .parents .now)) (length (a .listed .now)) (length (a .listed-ends .now)) (length (a .work .now)) (length (a .keys .now))
+    record { raster = a .raster .now; w = a .w; h = a .h; xheight = a .xheight; settings = a .p; pieces = a .pieces .now }
 
--- what the core is given, once the number is 0
-known : (c : tie.Else1)
-    → let a = c .before .before .before .before .before .before .before .before .before .before .before .before .before .before .args in
-    Ready (a .raster .now) (a .w) (a .h) (a .pieces .now) (a .rects .now) (a .directions .now) (a .contrasts .now) (a .members .now) (a .ends .now) (a .parents .now) (a .listed .now) (a .listed-ends .now) (a .work .now) (a .keys .now)
-known c =
-    let a = c .before .before .before .before .before .before .before .before .before .before .before .before .before .before .args in
-    ready (a .raster .now) (a .w) (a .h) (a .xheight) (a .pieces .now) (a .p) (a .rects .now) (a .directions .now) (a .contrasts .now) (a .members .now) (a .ends .now) (a .parents .now) (a .listed .now) (a .listed-ends .now) (a .work .now) (a .keys .now) (sym (c .before .missed .ensures) ∙ c .if1 .left)
+abbrev lent : tie.Start → Lent
+lent c =
+    let a = c .args in
+    record {
+      rects = a .rects .now;
+      directions = a .directions .now;
+      contrasts = a .contrasts .now;
+      piece-members = a .members .now;
+      piece-ends = a .ends .now;
+      parents = a .parents .now;
+      listed = a .listed .now;
+      listed-ends = a .listed-ends .now;
+      work = a .work .now;
+      keys = a .keys .now;
+    }
+
+-- the number that the guard gave
+number-is : (c : tie.After-missed) → let s = c .before .before .before .before .before .before .before .before .before .before .before .before .before in c .missed .result ≡ firstMissed (questions (given s) (lent s))
+number-is c = let s = c .before .before .before .before .before .before .before .before .before .before .before .before .before in asked (given s) (lent s) (c .missed .ensures)
+
+-- no question is missed, once the number is 0
+none : (c : tie.Else1) → let s = c .before .before .before .before .before .before .before .before .before .before .before .before .before .before in firstMissed (questions (given s) (lent s)) ≡ 0
+none c = sym (number-is (c .before)) ∙ c .if1 .left
 
 missed-requires : tie.Need-missed-requires
 missed-requires c κs = tt
 
 returns : tie.Need-returns
-returns c =
-    let s = c .before .before .before .before .before .before .before .before .before .before .before .before .before .before in
-    refused (s .args .raster .now) (s .args .w) (s .args .h) (s .args .xheight) (s .args .pieces .now) (s .args .p) (room s) (c .before .missed .ensures) (c .if1 .taken)
+returns c = let s = c .before .before .before .before .before .before .before .before .before .before .before .before .before .before in refused (given s) (lent s) (number-is (c .before)) (c .if1 .taken)
 
 limit-u32-requires : tie.Need-limit-u32-requires
-limit-u32-requires c κs =
-    let s = c .before .before .before .before .before .before .before .before .before .before .before .before .before .before in
-    limits (s .args .p) (s .args .xheight)
-    (settled (s .args .w) (s .args .h) (s .args .xheight) (s .args .pieces .now) (s .args .p) (room s) (sym (c .before .missed .ensures) ∙ c .if1 .left)) .across
+limit-u32-requires c κs = let s = c .before .before .before .before .before .before .before .before .before .before .before .before .before .before in limits (s .args .p) (s .args .xheight) (settled (given s) (lent s) (none c)) .across
 
 limit-u32-requires-2 : tie.Need-limit-u32-requires-2
-limit-u32-requires-2 c κs =
-    let s = c .before .before .before .before .before .before .before .before .before .before .before .before .before .before .before in
-    limits (s .args .p) (s .args .xheight)
-    (settled (s .args .w) (s .args .h) (s .args .xheight) (s .args .pieces .now) (s .args .p) (room s) (sym (c .before .before .missed .ensures) ∙ c .before .if1 .left)) .gap
+limit-u32-requires-2 c κs = let s = c .before .before .before .before .before .before .before .before .before .before .before .before .before .before .before in limits (s .args .p) (s .args .xheight) (settled (given s) (lent s) (none (c .before))) .gap
 
 rulings-requires : tie.Need-rulings-requires
-rulings-requires c κs = known (c .before .before .before .before .before .before .before .before .before .before .before .before)
+rulings-requires c κs = let k = c .before .before .before .before .before .before .before .before .before .before .before .before in let s = k .before .before .before .before .before .before .before .before .before .before .before .before .before .before in ready (given s) (lent s) (none k)
 
 same-length : tie.Need-same-length
 same-length c = c .before .before .before .before .before .before .before .before .before .before .before .before .before .before .before .before .before .before .before .before .rulings .kept .1 .1 .1 .1 .1 .1 .0
@@ -81,8 +86,9 @@ same-length-10 c = c .before .before .before .before .before .before .before .be
 
 returns-2 : tie.Need-returns-2
 returns-2 c =
-    let s = c .before .before .before .before .before .before .before .before .before .before .before .before .before .before .before .before .before .before .before .before .before .before .before .before .before .before .before .before .before .before .before .before .before .before .before .before .before .before .before .before .before .before .before .before .before .before .before in
-    accepted (s .args .raster .now) (s .args .w) (s .args .h) (s .args .xheight) (s .args .pieces .now) (s .args .p) (room s) (c .before .before .before .before .before .before .before .before .before .before .before .before .before .before .before .before .before .before .before .before .before .before .before .before .before .before .before .before .before .before .before .before .before .before .missed .ensures) (c .before .before .before .before .before .before .before .before .before .before .before .before .before .before .before .before .before .before .before .before .before .before .before .before .before .before .before .before .before .before .before .before .before .if1 .left) (known (c .before .before .before .before .before .before .before .before .before .before .before .before .before .before .before .before .before .before .before .before .before .before .before .before .before .before .before .before .before .before .before .before .before)) (c .before .before .before .before .before .before .before .before .before .before .before .before .before .before .before .before .before .before .before .before .before .before .before .before .before .before .before .before .before .before .before .before .limit-u32 .ensures) (c .before .before .before .before .before .before .before .before .before .before .before .before .before .before .before .before .before .before .before .before .before .before .before .before .before .before .before .before .before .before .before .limit-u322 .ensures) (c .before .before .before .before .before .before .before .before .before .before .before .before .before .before .before .before .before .before .before .before .rulings .ensures)
+    let k = c .before .before .before .before .before .before .before .before .before .before .before .before .before .before .before .before .before .before .before .before .before .before .before .before .before .before .before .before .before .before .before .before .before in
+    let s = k .before .before .before .before .before .before .before .before .before .before .before .before .before .before in
+    passed (given s) (lent s) (number-is (k .before)) _ (k .if1 .left) (ready (given s) (lent s) (none k)) (c .before .before .before .before .before .before .before .before .before .before .before .before .before .before .before .before .before .before .before .before .before .before .before .before .before .before .before .before .before .before .before .before .limit-u32 .ensures) (c .before .before .before .before .before .before .before .before .before .before .before .before .before .before .before .before .before .before .before .before .before .before .before .before .before .before .before .before .before .before .before .limit-u322 .ensures) (c .before .before .before .before .before .before .before .before .before .before .before .before .before .before .before .before .before .before .before .before .rulings .ensures)
 
 pub segments-spec : {M : Type 1} → statement M
 segments-spec =
