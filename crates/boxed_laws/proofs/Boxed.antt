@@ -99,7 +99,7 @@ module _ (g : Page) (few : count (g .glyphs) ≤ 16384) (boxes-few : length (Pag
   rects-counted = omega (arith, rects-long)
 
   -- The boxes pass questions 5 and 6.
-  pub boxes-given : Grids.Given (Page.boxRects g)
+  pub boxes-given : Grids.PassedBoxes (Page.boxRects g)
   boxes-given = record { inside = below; few = omega (arith, rects-counted) }
 
   -- There are no more sets than boxes.

@@ -1,6 +1,6 @@
 -- What a page is once its questions were answered yes: every glyph box lies on the ink, so it can be read, and there is room for as many boxes.
 use mathlib.Core.Path.{_≡_}
-use mathlib.Core.Bool.{true, _&&_}
+use mathlib.Core.Bool.{_&&_}
 use mathlib.Core.List.{List, [], _∷_}
 use Prim.Native.Nat.{ℕ, suc, _*_, _≤_}
 use native.Mathlib.Nat.{mul-le-mul-right, mul-comm}
@@ -23,7 +23,7 @@ use Rattle.params.specs.Settled.{Settled}
 use Rattle.params.proofs.Passed.{settings-passed}
 use Rattle.ink.specs.Ink.{Readable}
 use Rattle.boxes.specs.Limits.{limitsOf}
-use Rattle.boxes.specs.Call.{roomFits, inputQuestions, boxQuestions}
+use Rattle.boxes.specs.Call.{Given, Lent, hasRoom, givenQuestions, questions}
 use Rattle.boxes.specs.Steps.{Ready}
 
 -- a rectangle inside the picture can be read
@@ -47,27 +47,23 @@ ready w h dpi xheight mask glyphs p a b full inside S rects marks coverages =
       coverages = coverages;
     }
 
--- question 14
-pub room-says : (n rects marks coverages : ℕ) → roomFits n rects marks coverages ≡ true → (4 * n ≤ rects) × (n ≤ marks) × (n ≤ coverages)
-room-says n rects marks coverages t =
-    let a = leb (4 * n) rects in
-    let b = leb n marks in
-    let c = leb n coverages in
-    let ab = and-first (a && b) c t in
-    (leb-true (4 * n) rects (and-first a b ab), leb-true n marks (and-second a b ab), leb-true n coverages (and-second (a && b) c t))
-
 -- a page that `boxes` accepts
-pub accepted-ready : (w h dpi : ℕ) (xheight : Float) (mask glyphs : List ℕ) (p : RulingsParams) (rs ms : List ℕ) (cs : List Float)
-    → firstMissed (boxQuestions w h dpi xheight (length mask) glyphs p (roomFits (count glyphs) (length rs) (length ms) (length cs))) ≡ 0
-    → Ready mask w glyphs (limitsOf dpi xheight p) rs ms cs
-accepted-ready w h dpi xheight mask glyphs p rs ms cs none =
-    let fits = roomFits (count glyphs) (length rs) (length ms) (length cs) in
-    let parts = yes-parts (inputQuestions w h dpi xheight (length mask) glyphs p) ((14, fits) ∷ []) (all-yes (boxQuestions w h dpi xheight (length mask) glyphs p fits) tt none) in
+pub accepted-ready : (g : Given) (l : Lent) → firstMissed (questions g l) ≡ 0
+    → Ready (g .ink) (g .w) (g .glyphs) (limitsOf (g .dpi) (g .xheight) (g .settings)) (l .rects) (l .marks) (l .coverages)
+accepted-ready g l none =
+    let parts = yes-parts (givenQuestions g) ((14, hasRoom g l) ∷ []) (all-yes (questions g l) tt none) in
     let yes = parts .0 in
-    let sides = sides-say w h (yes .0) in
-    let room = room-says (count glyphs) (length rs) (length ms) (length cs) (parts .1 .0) in
-    let settled : Settled p xheight = record {
-      settings = none-missed (settingsQuestions p) (yes .1 .1 .1 .1 .1);
-      xheight-passed = none-missed (xheightQuestions xheight) (and-second (dpiGiven dpi) (xheightInRange xheight) (yes .1 .0), tt);
+    let sides = sides-say (g .w) (g .h) (yes .0) in
+    let n = count (g .glyphs) in
+    let a = leb (4 * n) (length (l .rects)) in
+    let b = leb n (length (l .marks)) in
+    let c = leb n (length (l .coverages)) in
+    let ab = and-first (a && b) c (parts .1 .0) in
+    let settled : Settled (g .settings) (g .xheight) = record {
+      settings = none-missed (settingsQuestions (g .settings)) (yes .1 .1 .1 .1 .1);
+      xheight-passed = none-missed (xheightQuestions (g .xheight)) (and-second (dpiGiven (g .dpi)) (xheightInRange (g .xheight)) (yes .1 .0), tt);
     } in
-    ready w h dpi xheight mask glyphs p (sides .0) (sides .1) (raster-yes w h (length mask) (yes .1 .1 .0)) (all-inside-says w h glyphs (yes .1 .1 .1 .1 .0)) settled (room .0) (room .1) (room .2)
+    ready (g .w) (g .h) (g .dpi) (g .xheight) (g .ink) (g .glyphs) (g .settings) (sides .0) (sides .1) (raster-yes (g .w) (g .h) (length (g .ink)) (yes .1 .1 .0))
+    (all-inside-says (g .w) (g .h) (g .glyphs) (yes .1 .1 .1 .1 .0)) settled
+    (leb-true (4 * n) (length (l .rects)) (and-first a b ab)) (leb-true n (length (l .marks)) (and-second a b ab))
+    (leb-true n (length (l .coverages)) (and-second (a && b) c (parts .1 .0)))

@@ -16,7 +16,7 @@ use Rattle.ink.specs.Ink.{Ink, rowInk, columnInk, Readable}
 use Rattle.ink.proofs.Counts.{some-any, readable-inside}
 use Rattle.ink.proofs.Runs.{longest-same}
 use Rattle.boxes.specs.Tests.{topEdge, bottomEdge, leftEdge, rightEdge, runShare, edgeCoverage}
-use Rattle.boxes.specs.Bands.{topBand, bottomBand, leftBand, rightBand, lineShare}
+use Rattle.boxes.specs.Steps.{topBand, bottomBand, leftBand, rightBand, lineShare}
 
 same-test : (a b : Bool) → (a ≡ true → b ≡ true) → (b ≡ true → a ≡ true) → a ≡ b
 same-test true b f g = sym (f refl)

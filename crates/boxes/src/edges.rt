@@ -3,7 +3,7 @@ ghost use mathlib.Core.Path.{_≡_};
 ghost use Prim.Native.Nat.{_+_, _-_, _≤_, _<_, _^_};
 ghost use Rattle.ink.specs.Ink.{inkAt, Readable};
 ghost use Rattle.boxes.specs.Tests.{edgeCoverage};
-ghost use Rattle.boxes.specs.Bands.{topBand, bottomBand, leftBand, rightBand, lineShare};
+ghost use Rattle.boxes.specs.Steps.{topBand, bottomBand, leftBand, rightBand, lineShare};
 use rects::Rect;
 
 // a less k, and not below the floor.

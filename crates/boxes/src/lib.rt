@@ -32,21 +32,19 @@ pub fn boxes(
     marks: &mut [u32],
     coverages: &mut [f64],
 ) -> Answer
-    ensures { λ r. ⌜ Boxes w h dpi xheight (now (ink .entry)) (now (glyphs .entry)) p
-        (now (rects .entry)) (now (marks .entry)) (now (coverages .entry)) (now (rects .exit)) (now (marks .exit)) (now (coverages .exit)) (r .number) (r .count) ⌝ }
+    ensures { λ r. ⌜ Boxes (record {
+      w = w;
+      h = h;
+      dpi = dpi;
+      xheight = xheight;
+      settings = p;
+      ink = now (ink .entry);
+      glyphs = now (glyphs .entry);
+    })
+        (record { rects = now (rects .entry); marks = now (marks .entry); coverages = now (coverages .entry) })
+        (record { rects = now (rects .exit); marks = now (marks .exit); coverages = now (coverages .exit) }) r ⌝ }
 {
-    let number = guard::missed(
-        w,
-        h,
-        dpi,
-        xheight,
-        ink.len(),
-        glyphs,
-        p,
-        rects.len(),
-        marks.len(),
-        coverages.len(),
-    );
+    let number = guard::missed(w, h, dpi, xheight, ink, glyphs, p, rects, marks, coverages);
     if number != 0 {
         return Answer { number, count: 0 };
     }

@@ -17,7 +17,8 @@ fn store(
     found: Found,
 ) -> usize
     requires { ⌜ RoomAt n (now rects) (now marks) (now coverages) ⌝ }
-    ensures { λ r. ⌜ Stored found n (now (rects .entry)) (now (marks .entry)) (now (coverages .entry)) (now (rects .exit)) (now (marks .exit)) (now (coverages .exit)) r ⌝ }
+    ensures { λ r. ⌜ Stored found n (now (rects .entry)) (now (marks .entry)) (now (coverages .entry))
+        (now (rects .exit)) (now (marks .exit)) (now (coverages .exit)) r ⌝ }
 {
     match found {
         Found::PassedOver => n,
@@ -41,7 +42,8 @@ pub fn find(
     coverages: &mut [f64],
 ) -> usize
     requires { ⌜ Ready (now mask) w (now glyphs) l (now rects) (now marks) (now coverages) ⌝ }
-    ensures { λ n. ⌜ Made (now (mask .entry)) w (now (glyphs .entry)) l (now (rects .entry)) (now (marks .entry)) (now (coverages .entry)) (now (rects .exit)) (now (marks .exit)) (now (coverages .exit)) n ⌝ }
+    ensures { λ n. ⌜ Made (now (mask .entry)) w (now (glyphs .entry)) l (now (rects .entry)) (now (marks .entry)) (now (coverages .entry))
+        (now (rects .exit)) (now (marks .exit)) (now (coverages .exit)) n ⌝ }
 {
     let count = glyphs.len() / 4;
     let mut n = 0;

@@ -1,22 +1,19 @@
 -- What the guard computes, test by test, and what is known once it gives 0.
 use mathlib.Core.Path.{_≡_, refl, sym, ap, _∙_}
 use mathlib.Core.Bool.{Bool, true, false, cond, _&&_}
-use mathlib.Core.List.{List, [], _∷_, _++_}
+use mathlib.Core.List.{[], _∷_, _++_}
 use Prim.Native.Nat.{ℕ}
 use lib.Dec.{eqb}
-use lib.Ieee.{Float}
 use borrow.Author.Tests.{leb-true, eq-eqb, ne-eqb}
 use Rattle.lists.proofs.Every.{and-first, and-second}
 use Rattle.questions.specs.Questions.{firstMissed}
 use Rattle.questions.proofs.FirstMissed.{in-two-parts, all-yes, none-missed, yes-parts}
-use Rattle.params.specs.declared.settings.RulingsParams.{RulingsParams}
 use Rattle.params.specs.Scan.{xheightQuestions}
 use Rattle.params.specs.Settings.{settingsQuestions}
 use Rattle.rects.specs.Rects.{count, countFits, allInside}
 use Rattle.rects.proofs.Questions.{count-says, all-inside-says}
-use Rattle.grids.specs.Questions.{gridQuestions}
-use Rattle.grids.specs.Call.{Lent, hasRoom}
-use Rattle.grids.specs.Steps.{Given, Roomy}
+use Rattle.grids.specs.Call.{Given, Lent, hasRoom, givenQuestions, questions}
+use Rattle.grids.specs.Steps.{PassedBoxes, Roomy}
 use Rattle.params.specs.Settled.{Settled}
 
 -- two numbers and three tests, in the order of the questions
@@ -42,15 +39,18 @@ module _ (a : ℕ) (g i : Bool) (b : ℕ) (room : Bool) where
   pub by-none : a ≡ 0 → g ≡ true → i ≡ true → b ≡ 0 → room ≡ true → 0 ≡ nested a g i b room
   by-none ea eg ei eb er = rw (eq-eqb a 0 ea, eg, ei, eq-eqb b 0 eb, er) refl
 
-module _ (xheight : Float) (p : RulingsParams) (rects : List ℕ) (room : Bool) where
+module _ (g : Given) (room : Bool) where
   -- the questions in order, as nested tests
-  pub in-order : {a b : ℕ} {g i : Bool} → a ≡ firstMissed (xheightQuestions xheight) → g ≡ countFits 16384 rects → i ≡ allInside 8192 8192 rects
-      → b ≡ firstMissed (settingsQuestions p) → nested a g i b room ≡ firstMissed (gridQuestions xheight p rects room)
-  in-order ea eg ei eb =
-      rw (ea, eg, ei, eb)
-      (ap (λ (n : ℕ). cond (eqb (firstMissed (xheightQuestions xheight)) 0) (cond (countFits 16384 rects) (cond (allInside 8192 8192 rects) n 6) 5) (firstMissed (xheightQuestions xheight)))
-      (sym (in-two-parts (settingsQuestions p) ((14, room) ∷ []) tt))
-      ∙ sym (in-two-parts (xheightQuestions xheight) ((5, countFits 16384 rects) ∷ (6, allInside 8192 8192 rects) ∷ settingsQuestions p ++ (14, room) ∷ []) tt))
+  pub in-order : {a b : ℕ} {c i : Bool} → a ≡ firstMissed (xheightQuestions (g .xheight)) → c ≡ countFits 16384 (g .rects) → i ≡ allInside 8192 8192 (g .rects)
+      → b ≡ firstMissed (settingsQuestions (g .settings)) → nested a c i b room ≡ firstMissed (givenQuestions g ++ (14, room) ∷ [])
+  in-order ea ec ei eb =
+      let first = xheightQuestions (g .xheight) in
+      let fits = countFits 16384 (g .rects) in
+      let inside = allInside 8192 8192 (g .rects) in
+      let settings = settingsQuestions (g .settings) in
+      rw (ea, ec, ei, eb)
+      (ap (λ (n : ℕ). cond (eqb (firstMissed first) 0) (cond fits (cond inside n 6) 5) (firstMissed first)) (sym (in-two-parts settings ((14, room) ∷ []) tt))
+      ∙ sym (in-two-parts first ((5, fits) ∷ (6, inside) ∷ settings ++ (14, room) ∷ []) tt))
 
 -- seven tests, each of which passed
 seven : {a b c d e f g : Bool} → a && b && c && d && e && f && g ≡ true
@@ -70,8 +70,8 @@ seven {a} {b} {c} {d} {e} {f} {g} h =
       and-second (a && b && c && d && e && f) g h,
     )
 
-room-says : (n : ℕ) (l : Lent) → hasRoom n l ≡ true → Roomy n l
-room-says n l h =
+room-says : (g : Given) (l : Lent) → hasRoom g l ≡ true → Roomy (count (g .rects)) l
+room-says g l h =
     let t = seven h in
     record {
       members = leb-true _ _ (t .0);
@@ -84,17 +84,19 @@ room-says n l h =
     }
 
 -- what a guard that gave 0 says
-pub record Passed (xheight : Float) (p : RulingsParams) (rects : List ℕ) (l : Lent) : Type 0 where
-  pub given : Given rects
-  pub settled : Settled p xheight
-  pub roomy : Roomy (count rects) l
+pub record Passed (g : Given) (l : Lent) : Type 0 where
+  pub boxes : PassedBoxes (g .rects)
+  pub settled : Settled (g .settings) (g .xheight)
+  pub roomy : Roomy (count (g .rects)) l
 
-pub passed : (xheight : Float) (p : RulingsParams) (rects : List ℕ) (l : Lent) → firstMissed (gridQuestions xheight p rects (hasRoom (count rects) l)) ≡ 0
-    → Passed xheight p rects l
-passed xheight p rects l h =
-    let y = all-yes (gridQuestions xheight p rects (hasRoom (count rects) l)) tt h in
+pub passed : (g : Given) (l : Lent) → firstMissed (questions g l) ≡ 0 → Passed g l
+passed g l h =
+    let y = all-yes (questions g l) tt h in
     record {
-      given = record { inside = all-inside-says 8192 8192 rects (y .1 .1 .0); few = count-says 16384 rects (y .1 .0) .1 };
-      settled = record { settings = none-missed (settingsQuestions p) (yes-parts (settingsQuestions p) ((14, hasRoom (count rects) l) ∷ []) (y .1 .1 .1) .0); xheight-passed = none-missed (xheightQuestions xheight) (y .0, tt) };
-      roomy = room-says (count rects) l (y .1 .1 .1 .1 .1 .1 .1 .1 .1 .0);
+      boxes = record { inside = all-inside-says 8192 8192 (g .rects) (y .1 .1 .0); few = count-says 16384 (g .rects) (y .1 .0) .1 };
+      settled = record {
+        settings = none-missed (settingsQuestions (g .settings)) (yes-parts (settingsQuestions (g .settings)) ((14, hasRoom g l) ∷ []) (y .1 .1 .1) .0);
+        xheight-passed = none-missed (xheightQuestions (g .xheight)) (y .0, tt);
+      };
+      roomy = room-says g l (y .1 .1 .1 .1 .1 .1 .1 .1 .1 .0);
     }

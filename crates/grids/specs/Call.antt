@@ -1,22 +1,86 @@
--- What `box_grids` promises: every lent list for accepted and refused input, and demand 3 for boxes.
+-- What `box_grids` is given and lent, the questions that it puts, and what it promises.
 use mathlib.Core.Path.{_≡_}
-use mathlib.Core.Bool.{Bool, true, cond}
-use mathlib.Core.List.{List, [], map}
+use mathlib.Core.Bool.{Bool, true, cond, _&&_}
+use mathlib.Core.List.{List, [], _∷_, _++_, map}
 use Prim.Native.Nat.{ℕ, _<_}
-use lib.Dec.{eqb}
+use lib.Dec.{leb, eqb}
 use lib.Ieee.{Float}
 use lib.ListN.{length, getD}
 use Rattle.lists.specs.Lists.{concat, written}
 use Rattle.sets.specs.Closed.{Below, Listed, ListedWhere}
 use Rattle.sets.specs.Listing.{endsFrom, ReadAs}
-use Rattle.questions.specs.Questions.{firstMissed}
+use Rattle.questions.specs.Questions.{Question, firstMissed}
+use Rattle.rects.specs.Rects.{count, countFits, allInside}
 use Rattle.params.specs.declared.settings.RulingsParams.{RulingsParams}
+use Rattle.params.specs.Scan.{xheightQuestions}
+use Rattle.params.specs.Settings.{settingsQuestions}
 use Rattle.params.specs.Limits.{IsLimit, alignSetting, alignLimit}
-use Rattle.rects.specs.Rects.{count, allInside}
+use Rattle.grids.specs.declared.Answer.{Answer}
 use Rattle.grids.specs.Boxes.{Touch}
 use Rattle.grids.specs.Reading.{InReadingOrder, readingOrder}
 use Rattle.grids.specs.Grids.{boxSets, isGrid, grids, readings}
-use Rattle.grids.specs.Questions.{roomForBoxes, gridQuestions}
+
+-- What the call is given: the boxes by their rectangles.
+pub record Given : Type 0 where
+  pub xheight : Float
+  pub settings : RulingsParams
+  pub rects : List ℕ
+
+-- The lists that it is lent, by name: answers, then work lists.
+pub record Lent : Type 0 where
+  pub members : List ℕ
+  pub ends : List ℕ
+  pub reading : List ℕ
+  pub numbers : List ℕ
+  pub parents : List ℕ
+  pub work : List ℕ
+  pub keys : List ℕ
+
+-- Question 14: each index, member or work list has one entry a box.
+abbrev pub hasRoom : Given → Lent → Bool
+hasRoom g l =
+    let n = count (g .rects) in
+    leb n (length (l .members))
+    && leb n (length (l .ends))
+    && leb n (length (l .reading))
+    && leb n (length (l .numbers))
+    && leb n (length (l .parents))
+    && leb n (length (l .work))
+    && leb n (length (l .keys))
+
+-- The questions about what is given, in document 01's order: 2 (x-height), 5, 6, 7 to 11, 13.
+abbrev pub givenQuestions : Given → List Question
+givenQuestions g =
+    xheightQuestions (g .xheight)
+    ++ (5, countFits 16384 (g .rects))
+    ∷ (6, allInside 8192 8192 (g .rects))
+    ∷ settingsQuestions (g .settings)
+
+-- All questions that it puts.
+abbrev pub questions : Given → Lent → List Question
+questions g l = givenQuestions g ++ (14, hasRoom g l) ∷ []
+
+-- The closed sets of boxes, with the limit that the settings and the x-height give.
+abbrev pub setsOf : Float → RulingsParams → List ℕ → List (List ℕ)
+setsOf xheight p rects = boxSets rects (alignLimit p xheight)
+
+-- Those of what is given, and the numbers of those that are grids.
+abbrev pub allSets : Given → List (List ℕ)
+allSets g = setsOf (g .xheight) (g .settings) (g .rects)
+
+abbrev pub numbers : Given → List ℕ
+numbers g = grids (g .settings .«grid_min_boxes») (allSets g)
+
+-- What an accepted call leaves: each list is its definition, written from the front, and places past it keep their content.
+pub record Answers (g : Given) (l l′ : Lent) : Type 0 where
+  pub members : l′ .members ≡ written (concat (allSets g)) (l .members)
+  pub ends : l′ .ends ≡ written (endsFrom 0 (allSets g)) (l .ends)
+  pub reading : l′ .reading ≡ written (readings (g .rects) (allSets g)) (l .reading)
+  pub numbers : l′ .numbers ≡ written (numbers g) (l .numbers)
+
+-- The limit is the rounded product, not below 0.
+pub record Limits (g : Given) : Type 0 where
+  pub align : IsLimit (alignSetting (g .settings)) (g .xheight)
 
 -- Demand 3 for boxes: a set is listed exactly when it is closed, and then once; the grids are exactly the closed sets that reach the grid
 -- minimum, each once; and each reading order has its set's members by y0, then x0, then index.
@@ -28,49 +92,24 @@ pub record Demand3 (rects : List ℕ) (limit least : ℕ) : Type 0 where
       allInside 8192 8192 rects ≡ true → (k : ℕ) → k < length (boxSets rects limit)
       → InReadingOrder rects (getD (boxSets rects limit) k []) (readingOrder rects (getD (boxSets rects limit) k []))
 
--- The content of the lists that are lent: answers, then work lists.
-pub record Lent : Type 0 where
-  pub members : List ℕ
-  pub ends : List ℕ
-  pub reading : List ℕ
-  pub numbers : List ℕ
-  pub parents : List ℕ
-  pub work : List ℕ
-  pub keys : List ℕ
+-- An accepted call: the number 0, and how many sets and grids there are.
+abbrev pub accepted : Given → Answer
+accepted g = record { number = 0; sets = length (allSets g); grids = length (numbers g) }
 
--- Every list has room for n boxes.
-abbrev pub hasRoom : ℕ → Lent → Bool
-hasRoom n l =
-    roomForBoxes n (length (l .members)) (length (l .ends)) (length (l .reading)) (length (l .numbers)) (length (l .parents)) (length (l .work)) (length (l .keys))
+-- A refused call: the number of the missed question, and every count 0.
+abbrev pub refusal : ℕ → Answer
+refusal number = record { number = number; sets = 0; grids = 0 }
 
--- The number of the first missed question, 0 for none.
-abbrev pub missedBy : Float → RulingsParams → List ℕ → Lent → ℕ
-missedBy xheight p rects l = firstMissed (gridQuestions xheight p rects (hasRoom (count rects) l))
-
--- The answers stand in front where the page is accepted; a refused page leaves the list.
-abbrev pub answered : ℕ → List ℕ → List ℕ → List ℕ
-answered q xs lent = cond (eqb q 0) (written xs lent) lent
-
--- The closed sets of the boxes that `box_grids` is given.
-abbrev pub setsOf : Float → RulingsParams → List ℕ → List (List ℕ)
-setsOf xheight p rects = boxSets rects (alignLimit p xheight)
-
--- What `box_grids` leaves: the number of the first missed question; an accepted page's answers; a refused page leaves every list; and demand 3.
-pub record Grids (xheight : Float) (p : RulingsParams) (rects : List ℕ) (l l′ : Lent) (q ss gs : ℕ) : Type 0 where
-  pub number : q ≡ missedBy xheight p rects l
-  pub set-count : ss ≡ cond (eqb q 0) (length (setsOf xheight p rects)) 0
-  pub grid-count : gs ≡ cond (eqb q 0) (length (grids (p .«grid_min_boxes») (setsOf xheight p rects))) 0
-  pub members : l′ .members ≡ answered q (concat (setsOf xheight p rects)) (l .members)
-  pub ends : l′ .ends ≡ answered q (endsFrom 0 (setsOf xheight p rects)) (l .ends)
-  pub reading : l′ .reading ≡ answered q (readings rects (setsOf xheight p rects)) (l .reading)
-  pub numbers : l′ .numbers ≡ answered q (grids (p .«grid_min_boxes») (setsOf xheight p rects)) (l .numbers)
-  -- a refused call leaves the work lists too
-  pub parents-kept : (q ≡ 0 → ⊥) → l′ .parents ≡ l .parents
-  pub work-kept : (q ≡ 0 → ⊥) → l′ .work ≡ l .work
-  pub keys-kept : (q ≡ 0 → ⊥) → l′ .keys ≡ l .keys
-  -- the limit is the rounded product, not below 0
-  pub limit : q ≡ 0 → IsLimit (alignSetting p) xheight
-  -- the lists give each set back, and in the same places its reading order
-  pub read : q ≡ 0 → ReadAs (setsOf xheight p rects) (l′ .members) (l′ .ends) ss
-  pub read-order : q ≡ 0 → ReadAs (map (readingOrder rects) (setsOf xheight p rects)) (l′ .reading) (l′ .ends) ss
-  pub demand3 : Demand3 rects (alignLimit p xheight) (p .«grid_min_boxes»)
+-- What a call of `box_grids` promises: the number of the first missed question; the counts, all 0 where one is missed; a refused call leaves every
+-- list, work lists too; an accepted one leaves the answers, and demand 3 holds of the sets and of their reading orders as they are read.
+pub record Grids (g : Given) (l l′ : Lent) (a : Answer) : Type 0 where
+  pub number : a .number ≡ firstMissed (questions g l)
+  pub counts : a ≡ cond (eqb (a .number) 0) (accepted g) (refusal (a .number))
+  pub refused : (a .number ≡ 0 → ⊥) → l′ ≡ l
+  pub answers : a .number ≡ 0 → Answers g l l′
+  pub limits : a .number ≡ 0 → Limits g
+  pub demand3 :
+      a .number ≡ 0
+      → Demand3 (g .rects) (alignLimit (g .settings) (g .xheight)) (g .settings .«grid_min_boxes»)
+      × ReadAs (allSets g) (l′ .members) (l′ .ends) (a .sets)
+      × ReadAs (map (readingOrder (g .rects)) (allSets g)) (l′ .reading) (l′ .ends) (a .sets)

@@ -1,7 +1,7 @@
--- What a reader must believe of `grids`: document 01's "Boxes and grids" for `box_grids`. `Steps` only its inner functions cite.
+-- What a reader must believe of `grids`: document 01's "Boxes and grids" for `box_grids`.
 pub mod Boxes
 pub mod Grids
 pub mod Reading
-pub mod Questions
 pub mod Call
+-- Not needed to read the contract.
 pub mod Steps

@@ -1,22 +1,19 @@
--- What the functions under `box_grids` say to each other; none of it is needed to read the call's contract.
+-- What the functions under `box_grids` say to each other; not needed to read the call's contract.
 use mathlib.Core.Path.{_≡_}
 use mathlib.Core.Bool.{Bool, true, false, not, _&&_}
 use mathlib.Core.List.{List, map}
 use Prim.Native.Nat.{ℕ, _≤_, _<_}
 use lib.Dec.{eqb}
-use lib.Ieee.{Float}
 use lib.ListN.{length, getD}
 use Rattle.lists.specs.Lists.{In, below, concat, written}
 use Rattle.sets.specs.Listing.{endsFrom, ReadAs}
-use Rattle.questions.specs.Questions.{firstMissed}
-use Rattle.params.specs.declared.settings.RulingsParams.{RulingsParams}
 use Rattle.rects.specs.Rects.{count, rectAt, Inside}
 use Rattle.grids.specs.Reading.{readingOrder}
 use Rattle.grids.specs.Grids.{boxSets, gridNumbers, grids, readings}
 use Rattle.grids.specs.Call.{Lent}
 
 -- The boxes have passed questions 5 and 6.
-pub record Given (rects : List ℕ) : Type 0 where
+pub record PassedBoxes (rects : List ℕ) : Type 0 where
   pub inside : (k : ℕ) → k < count rects → Inside 8192 8192 (rectAt rects k)
   pub few : count rects ≤ 16384
 

@@ -4,7 +4,7 @@ ghost use Prim.Native.Nat.{_<_, _^_};
 ghost use Rattle.rects.specs.Rects.{count};
 ghost use Rattle.params.specs.Limits.{alignLimit};
 ghost use Rattle.params.specs.Settled.{Settled};
-ghost use Rattle.grids.specs.Steps.{Given, Roomy, Filled};
+ghost use Rattle.grids.specs.Steps.{PassedBoxes, Roomy, Filled};
 use crate::reading;
 use crate::touch;
 use params::settings::RulingsParams;
@@ -37,10 +37,35 @@ pub fn find(
     work: &mut [u32],
     keys: &mut [u64],
 ) -> Counts
-    requires { ⌜ (limit < 2 ^ 40) × Given (now rects) × Roomy (count (now rects)) (record { members = now members; ends = now ends; reading = now reading; numbers = now numbers; parents = now parents; work = now work; keys = now keys }) ⌝ }
+    requires { ⌜ (limit < 2 ^ 40) × PassedBoxes (now rects) × Roomy (count (now rects))
+        (record {
+          members = now members;
+          ends = now ends;
+          reading = now reading;
+          numbers = now numbers;
+          parents = now parents;
+          work = now work;
+          keys = now keys;
+        }) ⌝ }
     ensures { λ r. ⌜ Filled (now (rects .entry)) limit least
-        (record { members = now (members .entry); ends = now (ends .entry); reading = now (reading .entry); numbers = now (numbers .entry); parents = now (parents .entry); work = now (work .entry); keys = now (keys .entry) })
-        (record { members = now (members .exit); ends = now (ends .exit); reading = now (reading .exit); numbers = now (numbers .exit); parents = now (parents .exit); work = now (work .exit); keys = now (keys .exit) })
+        (record {
+          members = now (members .entry);
+          ends = now (ends .entry);
+          reading = now (reading .entry);
+          numbers = now (numbers .entry);
+          parents = now (parents .entry);
+          work = now (work .entry);
+          keys = now (keys .entry);
+        })
+        (record {
+          members = now (members .exit);
+          ends = now (ends .exit);
+          reading = now (reading .exit);
+          numbers = now (numbers .exit);
+          parents = now (parents .exit);
+          work = now (work .exit);
+          keys = now (keys .exit);
+        })
         (r .sets) (r .grids) ⌝ }
 {
     let sets = touch::connect(rects, limit, parents, members, ends, work);

@@ -28,10 +28,25 @@ pub fn box_grids(
     work: &mut [u32],
     keys: &mut [u64],
 ) -> Answer
-    ensures { λ r. ⌜ Grids xheight p (now (rects .entry))
-        (record { members = now (members .entry); ends = now (ends .entry); reading = now (reading .entry); numbers = now (numbers .entry); parents = now (parents .entry); work = now (work .entry); keys = now (keys .entry) })
-        (record { members = now (members .exit); ends = now (ends .exit); reading = now (reading .exit); numbers = now (numbers .exit); parents = now (parents .exit); work = now (work .exit); keys = now (keys .exit) })
-        (r .number) (r .sets) (r .grids) ⌝ }
+    ensures { λ r. ⌜ Grids (record { xheight = xheight; settings = p; rects = now (rects .entry) })
+        (record {
+          members = now (members .entry);
+          ends = now (ends .entry);
+          reading = now (reading .entry);
+          numbers = now (numbers .entry);
+          parents = now (parents .entry);
+          work = now (work .entry);
+          keys = now (keys .entry);
+        })
+        (record {
+          members = now (members .exit);
+          ends = now (ends .exit);
+          reading = now (reading .exit);
+          numbers = now (numbers .exit);
+          parents = now (parents .exit);
+          work = now (work .exit);
+          keys = now (keys .exit);
+        }) r ⌝ }
 {
     let room = guard::room_for_boxes(
         rects.len() / 4,

@@ -9,11 +9,11 @@ ghost use Rattle.order.specs.Order.{sortedIndexes};
 ghost use Rattle.rects.specs.Rects.{count};
 ghost use Rattle.sets.specs.Listing.{membersOf};
 ghost use Rattle.grids.specs.Reading.{readingKeys, readingOrder};
-ghost use Rattle.grids.specs.Steps.{Given, Indexes, SetsIn, WorkRoom, Chose};
+ghost use Rattle.grids.specs.Steps.{PassedBoxes, Indexes, SetsIn, WorkRoom, Chose};
 
 // The keys of a set's boxes: y0, then x0.
 fn set_keys(rects: &[u32], set: &[u32], keys: &mut [u64])
-    requires { ⌜ Given (now rects) × Indexes (count (now rects)) (now set) × (length (now set) ≤ length (now keys)) ⌝ }
+    requires { ⌜ PassedBoxes (now rects) × Indexes (count (now rects)) (now set) × (length (now set) ≤ length (now keys)) ⌝ }
     ensures { λ _. ⌜ now (keys .exit) ≡ written (readingKeys (now (rects .entry)) (now (set .entry))) (now (keys .entry)) ⌝ }
 {
     let mut k = 0;
@@ -34,8 +34,10 @@ fn sort_keys(keys: &[u64], n: usize, order: &mut [u32], work: &mut [u32])
 
 // Writes the members of a set in the order of the given places, from place `at` on.
 fn put(set: &[u32], order: &[u32], reading: &mut [u32], at: usize)
-    requires { ⌜ (length (now set) ≤ length (now order)) × ((k : ℕ) → k < length (now set) → getD (now order) k 0 < length (now set)) × (at + length (now set) ≤ length (now reading)) ⌝ }
-    ensures { λ _. ⌜ now (reading .exit) ≡ sets (now (reading .entry)) at (map (λ i. getD (now (set .entry)) i 0) (take (length (now (set .entry))) (now (order .entry)))) ⌝ }
+    requires { ⌜ (length (now set) ≤ length (now order)) × ((k : ℕ) → k < length (now set) → getD (now order) k 0 < length (now set))
+        × (at + length (now set) ≤ length (now reading)) ⌝ }
+    ensures { λ _. ⌜ now (reading .exit) ≡ sets (now (reading .entry)) at
+        (map (λ i. getD (now (set .entry)) i 0) (take (length (now (set .entry))) (now (order .entry)))) ⌝ }
 {
     let mut k = 0;
     while k < set.len() {
@@ -54,7 +56,8 @@ fn read_set(
     work: &mut [u32],
     keys: &mut [u64],
 )
-    requires { ⌜ Given (now rects) × Indexes (count (now rects)) (now set) × WorkRoom (length (now set)) (length (now order)) (length (now work)) (length (now keys)) × (at + length (now set) ≤ length (now reading)) ⌝ }
+    requires { ⌜ PassedBoxes (now rects) × Indexes (count (now rects)) (now set)
+        × WorkRoom (length (now set)) (length (now order)) (length (now work)) (length (now keys)) × (at + length (now set) ≤ length (now reading)) ⌝ }
     ensures { λ _. ⌜ now (reading .exit) ≡ sets (now (reading .entry)) at (readingOrder (now (rects .entry)) (now (set .entry))) ⌝ }
 {
     set_keys(rects, set, keys);
@@ -73,10 +76,11 @@ pub fn read_sets(
     work: &mut [u32],
     keys: &mut [u64],
 )
-    requires { ⌜ Given (now rects) × SetsIn (Rattle.rects.specs.Rects.count (now rects)) (membersOf (now members) (now ends) count) count
+    requires { ⌜ PassedBoxes (now rects) × SetsIn (Rattle.rects.specs.Rects.count (now rects)) (membersOf (now members) (now ends) count) count
         × WorkRoom (Rattle.rects.specs.Rects.count (now rects)) (length (now order)) (length (now work)) (length (now keys))
         × (Rattle.rects.specs.Rects.count (now rects) ≤ length (now reading)) ⌝ }
-    ensures { λ _. ⌜ now (reading .exit) ≡ written (concat (map (λ k. readingOrder (now (rects .entry)) (membersOf (now (members .entry)) (now (ends .entry)) count k)) (below count))) (now (reading .entry)) ⌝ }
+    ensures { λ _. ⌜ now (reading .exit) ≡ written
+        (concat (map (λ k. readingOrder (now (rects .entry)) (membersOf (now (members .entry)) (now (ends .entry)) count k)) (below count))) (now (reading .entry)) ⌝ }
 {
     let mut at = 0;
     let mut k = 0;

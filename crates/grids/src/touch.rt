@@ -9,7 +9,7 @@ ghost use Rattle.sets.specs.Closed.{Below};
 ghost use Rattle.sets.specs.Joins.{Joins, Seen};
 ghost use Rattle.sets.specs.Parents.{Room};
 ghost use Rattle.grids.specs.Boxes.{similar, distance, aligned, touching, touch, Touch};
-ghost use Rattle.grids.specs.Steps.{Given, Next, Connected};
+ghost use Rattle.grids.specs.Steps.{PassedBoxes, Next, Connected};
 use rects::Rect;
 
 fn distance(a: u32, b: u32) -> u32
@@ -66,7 +66,8 @@ fn touches(a: Rect, b: Rect, limit: u64, joined: bool) -> bool
 // The first box at or past `from` that touches box i and has another parent: two with one parent are in one set already. The
 // number of boxes where there is none.
 fn next(rects: &[u32], limit: u64, parents: &[u32], i: usize, from: usize) -> usize
-    requires { ⌜ (limit < 2 ^ 40) × Given (now rects) × (i < count (now rects)) × (from ≤ count (now rects)) × (count (now rects) ≤ length (now parents)) ⌝ }
+    requires { ⌜ (limit < 2 ^ 40) × PassedBoxes (now rects) × (i < count (now rects)) × (from ≤ count (now rects))
+        × (count (now rects) ≤ length (now parents)) ⌝ }
     ensures { λ r. ⌜ Next (touch (now (rects .entry)) limit) (now (parents .entry)) i from (count (now (rects .entry))) r ⌝ }
 {
     let n = rects.len() / 4;
@@ -85,9 +86,11 @@ fn next(rects: &[u32], limit: u64, parents: &[u32], i: usize, from: usize) -> us
 
 // Joins box i with every later box that it touches.
 fn join_row(rects: &[u32], limit: u64, parents: &mut [u32], i: usize)
-    requires { ⌜ (limit < 2 ^ 40) × Given (now rects) × (i < count (now rects)) × Joins (count (now rects)) (Below (count (now rects))) (Seen (Touch (now rects) limit) i (i + 1)) (now parents) ⌝ }
+    requires { ⌜ (limit < 2 ^ 40) × PassedBoxes (now rects) × (i < count (now rects))
+        × Joins (count (now rects)) (Below (count (now rects))) (Seen (Touch (now rects) limit) i (i + 1)) (now parents) ⌝ }
     ensures { λ _.
-        ⌜ Joins (count (now (rects .entry))) (Below (count (now (rects .entry)))) (Seen (Touch (now (rects .entry)) limit) i (count (now (rects .entry)))) (now (parents .exit)) ⌝ }
+        ⌜ Joins (count (now (rects .entry))) (Below (count (now (rects .entry))))
+        (Seen (Touch (now (rects .entry)) limit) i (count (now (rects .entry)))) (now (parents .exit)) ⌝ }
 {
     let n = rects.len() / 4;
     let mut j = next(rects, limit, parents, i, i + 1);
@@ -99,7 +102,7 @@ fn join_row(rects: &[u32], limit: u64, parents: &mut [u32], i: usize)
 
 // Joins every two boxes that touch.
 fn join_all(rects: &[u32], limit: u64, parents: &mut [u32])
-    requires { ⌜ (limit < 2 ^ 40) × Given (now rects) × Room (count (now rects)) (now parents) ⌝ }
+    requires { ⌜ (limit < 2 ^ 40) × PassedBoxes (now rects) × Room (count (now rects)) (now parents) ⌝ }
     ensures { λ _.
         ⌜ Joins (count (now (rects .entry))) (Below (count (now (rects .entry)))) (Touch (now (rects .entry)) limit) (now (parents .exit)) ⌝ }
 {
@@ -121,7 +124,8 @@ pub fn connect(
     ends: &mut [u32],
     work: &mut [u32],
 ) -> usize
-    requires { ⌜ (limit < 2 ^ 40) × Given (now rects) × (count (now rects) ≤ length (now parents)) × (count (now rects) ≤ length (now members)) × (count (now rects) ≤ length (now ends)) × (count (now rects) ≤ length (now work)) ⌝ }
+    requires { ⌜ (limit < 2 ^ 40) × PassedBoxes (now rects) × (count (now rects) ≤ length (now parents))
+        × (count (now rects) ≤ length (now members)) × (count (now rects) ≤ length (now ends)) × (count (now rects) ≤ length (now work)) ⌝ }
     ensures { λ r. ⌜ Connected (now (rects .entry)) limit (now (members .entry)) (now (ends .entry)) (now (members .exit)) (now (ends .exit)) r ⌝ }
 {
     join_all(rects, limit, parents);

@@ -4,7 +4,7 @@ use mathlib.Core.Path.{_≡_, refl, sym, ap, ap₂, _∙_}
 use mathlib.Core.Bool.{true, false}
 use Rattle.rects.specs.declared.Rect.{Rect}
 use Rattle.ink.specs.Ink.{inkAt}
-use Rattle.boxes.specs.Bands.{lineShare}
+use Rattle.boxes.specs.Steps.{lineShare}
 use Rattle.boxes.proofs.Bands.{top-readable, bottom-readable, left-readable, right-readable, edges-are}
 use Rattle.boxes.proofs.edges.edge_coverage.Statement.{statement}
 use Rattle.boxes.proofs.edges.edge_coverage.Tie as tie

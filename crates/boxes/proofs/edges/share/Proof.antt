@@ -4,7 +4,7 @@ use mathlib.Core.Path.{_≡_, refl, sym, ap, ap₂, _∙_}
 use Prim.Native.Nat.{ℕ}
 use lib.Ieee.{binary64, div}
 use Rattle.math.specs.Sum.{whole}
-use Rattle.boxes.specs.Bands.{lineShare}
+use Rattle.boxes.specs.Steps.{lineShare}
 use Rattle.boxes.proofs.edges.share.Statement.{statement}
 use Rattle.boxes.proofs.edges.share.Tie as tie
 

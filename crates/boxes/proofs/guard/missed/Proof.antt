@@ -8,8 +8,7 @@ use lib.Dec.{T, eqb}
 use borrow.Author.Tests.{eq-eqb, ne-eqb}
 use Rattle.questions.specs.Questions.{Question, firstMissed}
 use Rattle.questions.proofs.FirstMissed.{numbered, in-two-parts}
-use Rattle.rects.specs.Rects.{count}
-use Rattle.boxes.specs.Call.{roomFits, inputQuestions}
+use Rattle.boxes.specs.Call.{Given, hasRoom, givenQuestions}
 use Rattle.boxes.proofs.guard.missed.Statement.{statement}
 use Rattle.boxes.proofs.guard.missed.Tie as tie
 
@@ -26,25 +25,41 @@ room-yes p t = sym (ap {B = ℕ} (λ (b : Bool). cond b 0 14) (sym p ∙ t))
 room-no : {x f : Bool} → x ≡ f → x ≡ false → _≡_ {A = ℕ} 14 (cond f 0 14)
 room-no p t = sym (ap {B = ℕ} (λ (b : Bool). cond b 0 14) (sym p ∙ t))
 
-missed-by-input-requires : tie.Need-missed-by-input-requires
-missed-by-input-requires c κs = search needs
+-- what was given, and what was lent
+abbrev given : tie.Start → Given
+given s =
+    record {
+      w = s .args .w;
+      h = s .args .h;
+      dpi = s .args .dpi;
+      xheight = s .args .xheight;
+      settings = s .args .p;
+      ink = s .args .ink .now;
+      glyphs = s .args .glyphs .now;
+    }
+
+abbrev room : tie.Start → List Question
+room s = (14, hasRoom (given s) (record { rects = s .args .rects .now; marks = s .args .marks .now; coverages = s .args .coverages .now })) ∷ []
+
+missed-by-given-requires : tie.Need-missed-by-given-requires
+missed-by-given-requires c κs = search needs
 
 returns : tie.Need-returns
-returns c = let a = c .before .before .before .args in stops (inputQuestions (a .w) (a .h) (a .dpi) (a .xheight) (a .bytes) (a .glyphs .now) (a .p)) ((14, roomFits (count (a .glyphs .now)) (a .rects) (a .marks) (a .coverages)) ∷ []) tt (c .before .missed-by-input .ensures) (c .if1 .taken)
+returns c = let s = c .before .before .before .before .before .before .before in stops (givenQuestions (given s)) (room s) tt (c .before .missed-by-given .ensures) (c .if1 .taken)
 
 room-fits-requires : tie.Need-room-fits-requires
 room-fits-requires c κs = search needs
 
 returns-2 : tie.Need-returns-2
 returns-2 c =
-    let a = c .before .before .before .before .before .args in
-    room-yes (c .before .room-fits .ensures) (c .if2 .taken) ∙ goes-on (inputQuestions (a .w) (a .h) (a .dpi) (a .xheight) (a .bytes) (a .glyphs .now) (a .p)) ((14, roomFits (count (a .glyphs .now)) (a .rects) (a .marks) (a .coverages)) ∷ []) tt (c .before .before .before .missed-by-input .ensures) (c .before .before .if1 .left)
+    let s = c .before .before .before .before .before .before .before .before .before in
+    room-yes (c .before .room-fits .ensures) (c .if2 .taken) ∙ goes-on (givenQuestions (given s)) (room s) tt (c .before .before .before .missed-by-given .ensures) (c .before .before .if1 .left)
 
 returns-3 : tie.Need-returns-3
 returns-3 c =
-    let a = c .before .before .before .before .before .args in
-    room-no (c .before .room-fits .ensures) (c .if2 .left) ∙ goes-on (inputQuestions (a .w) (a .h) (a .dpi) (a .xheight) (a .bytes) (a .glyphs .now) (a .p)) ((14, roomFits (count (a .glyphs .now)) (a .rects) (a .marks) (a .coverages)) ∷ []) tt (c .before .before .before .missed-by-input .ensures) (c .before .before .if1 .left)
+    let s = c .before .before .before .before .before .before .before .before .before in
+    room-no (c .before .room-fits .ensures) (c .if2 .left) ∙ goes-on (givenQuestions (given s)) (room s) tt (c .before .before .before .missed-by-given .ensures) (c .before .before .if1 .left)
 
 pub missed-spec : {M : Type 1} → statement M
 missed-spec =
-    tie.close (tie.spec missed-by-input-requires returns room-fits-requires returns-2 returns-3)
+    tie.close (tie.spec missed-by-given-requires returns room-fits-requires returns-2 returns-3)

@@ -22,37 +22,37 @@ returns : tie.Need-returns
 returns c =
     let start = c .before .before .before .before .before .before in
     by-scan (c .before .before .before .before .missed-by-xheight .result) (c .before .before .before .count-fits .result) (c .before .before .all-inside .result) (c .before .missed-by-settings .result) (start .args .room) (c .if1 .taken)
-    ∙ in-order (start .args .xheight) (start .args .p) (start .args .rects .now) (start .args .room) (c .before .before .before .before .missed-by-xheight .ensures) (c .before .before .before .count-fits .ensures) (c .before .before .all-inside .ensures) (c .before .missed-by-settings .ensures)
+    ∙ in-order (record { xheight = start .args .xheight; settings = start .args .p; rects = start .args .rects .now }) (start .args .room) (c .before .before .before .before .missed-by-xheight .ensures) (c .before .before .before .count-fits .ensures) (c .before .before .all-inside .ensures) (c .before .missed-by-settings .ensures)
 
 returns-2 : tie.Need-returns-2
 returns-2 c =
     let start = c .before .before .before .before .before .before .before in
     by-given (c .before .before .before .before .before .missed-by-xheight .result) (c .before .before .before .before .count-fits .result) (c .before .before .before .all-inside .result) (c .before .before .missed-by-settings .result) (start .args .room) (c .before .if1 .left) (not-true (c .before .before .before .before .count-fits .result) (c .if2 .taken))
-    ∙ in-order (start .args .xheight) (start .args .p) (start .args .rects .now) (start .args .room) (c .before .before .before .before .before .missed-by-xheight .ensures) (c .before .before .before .before .count-fits .ensures) (c .before .before .before .all-inside .ensures) (c .before .before .missed-by-settings .ensures)
+    ∙ in-order (record { xheight = start .args .xheight; settings = start .args .p; rects = start .args .rects .now }) (start .args .room) (c .before .before .before .before .before .missed-by-xheight .ensures) (c .before .before .before .before .count-fits .ensures) (c .before .before .before .all-inside .ensures) (c .before .before .missed-by-settings .ensures)
 
 returns-3 : tie.Need-returns-3
 returns-3 c =
     let start = c .before .before .before .before .before .before .before .before in
     by-inside (c .before .before .before .before .before .before .missed-by-xheight .result) (c .before .before .before .before .before .count-fits .result) (c .before .before .before .before .all-inside .result) (c .before .before .before .missed-by-settings .result) (start .args .room) (c .before .before .if1 .left) (not-false (c .before .before .before .before .before .count-fits .result) (c .before .if2 .left)) (not-true (c .before .before .before .before .all-inside .result) (c .if3 .taken))
-    ∙ in-order (start .args .xheight) (start .args .p) (start .args .rects .now) (start .args .room) (c .before .before .before .before .before .before .missed-by-xheight .ensures) (c .before .before .before .before .before .count-fits .ensures) (c .before .before .before .before .all-inside .ensures) (c .before .before .before .missed-by-settings .ensures)
+    ∙ in-order (record { xheight = start .args .xheight; settings = start .args .p; rects = start .args .rects .now }) (start .args .room) (c .before .before .before .before .before .before .missed-by-xheight .ensures) (c .before .before .before .before .before .count-fits .ensures) (c .before .before .before .before .all-inside .ensures) (c .before .before .before .missed-by-settings .ensures)
 
 returns-4 : tie.Need-returns-4
 returns-4 c =
     let start = c .before .before .before .before .before .before .before .before .before in
     by-settings (c .before .before .before .before .before .before .before .missed-by-xheight .result) (c .before .before .before .before .before .before .count-fits .result) (c .before .before .before .before .before .all-inside .result) (c .before .before .before .before .missed-by-settings .result) (start .args .room) (c .before .before .before .if1 .left) (not-false (c .before .before .before .before .before .before .count-fits .result) (c .before .before .if2 .left)) (not-false (c .before .before .before .before .before .all-inside .result) (c .before .if3 .left)) (c .if4 .taken)
-    ∙ in-order (start .args .xheight) (start .args .p) (start .args .rects .now) (start .args .room) (c .before .before .before .before .before .before .before .missed-by-xheight .ensures) (c .before .before .before .before .before .before .count-fits .ensures) (c .before .before .before .before .before .all-inside .ensures) (c .before .before .before .before .missed-by-settings .ensures)
+    ∙ in-order (record { xheight = start .args .xheight; settings = start .args .p; rects = start .args .rects .now }) (start .args .room) (c .before .before .before .before .before .before .before .missed-by-xheight .ensures) (c .before .before .before .before .before .before .count-fits .ensures) (c .before .before .before .before .before .all-inside .ensures) (c .before .before .before .before .missed-by-settings .ensures)
 
 returns-5 : tie.Need-returns-5
 returns-5 c =
     let start = c .before .before .before .before .before .before .before .before .before .before in
     by-room (c .before .before .before .before .before .before .before .before .missed-by-xheight .result) (c .before .before .before .before .before .before .before .count-fits .result) (c .before .before .before .before .before .before .all-inside .result) (c .before .before .before .before .before .missed-by-settings .result) (start .args .room) (c .before .before .before .before .if1 .left) (not-false (c .before .before .before .before .before .before .before .count-fits .result) (c .before .before .before .if2 .left)) (not-false (c .before .before .before .before .before .before .all-inside .result) (c .before .before .if3 .left)) (c .before .if4 .left) (not-true (start .args .room) (c .if5 .taken))
-    ∙ in-order (start .args .xheight) (start .args .p) (start .args .rects .now) (start .args .room) (c .before .before .before .before .before .before .before .before .missed-by-xheight .ensures) (c .before .before .before .before .before .before .before .count-fits .ensures) (c .before .before .before .before .before .before .all-inside .ensures) (c .before .before .before .before .before .missed-by-settings .ensures)
+    ∙ in-order (record { xheight = start .args .xheight; settings = start .args .p; rects = start .args .rects .now }) (start .args .room) (c .before .before .before .before .before .before .before .before .missed-by-xheight .ensures) (c .before .before .before .before .before .before .before .count-fits .ensures) (c .before .before .before .before .before .before .all-inside .ensures) (c .before .before .before .before .before .missed-by-settings .ensures)
 
 returns-6 : tie.Need-returns-6
 returns-6 c =
     let start = c .before .before .before .before .before .before .before .before .before .before in
     by-none (c .before .before .before .before .before .before .before .before .missed-by-xheight .result) (c .before .before .before .before .before .before .before .count-fits .result) (c .before .before .before .before .before .before .all-inside .result) (c .before .before .before .before .before .missed-by-settings .result) (start .args .room) (c .before .before .before .before .if1 .left) (not-false (c .before .before .before .before .before .before .before .count-fits .result) (c .before .before .before .if2 .left)) (not-false (c .before .before .before .before .before .before .all-inside .result) (c .before .before .if3 .left)) (c .before .if4 .left) (not-false (start .args .room) (c .if5 .left))
-    ∙ in-order (start .args .xheight) (start .args .p) (start .args .rects .now) (start .args .room) (c .before .before .before .before .before .before .before .before .missed-by-xheight .ensures) (c .before .before .before .before .before .before .before .count-fits .ensures) (c .before .before .before .before .before .before .all-inside .ensures) (c .before .before .before .before .before .missed-by-settings .ensures)
+    ∙ in-order (record { xheight = start .args .xheight; settings = start .args .p; rects = start .args .rects .now }) (start .args .room) (c .before .before .before .before .before .before .before .before .missed-by-xheight .ensures) (c .before .before .before .before .before .before .before .count-fits .ensures) (c .before .before .before .before .before .before .all-inside .ensures) (c .before .before .before .before .before .missed-by-settings .ensures)
 
 pub missed-spec : {M : Type 1} → statement M
 missed-spec =

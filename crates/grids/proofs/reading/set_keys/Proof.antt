@@ -11,7 +11,7 @@ use Rattle.rects.specs.declared.Rect.{Rect}
 use Rattle.rects.specs.Rects.{count, rectAt, Inside}
 use Rattle.rects.proofs.Questions.{has-numbers}
 use Rattle.grids.specs.Reading.{readingKey, readingKeys}
-use Rattle.grids.specs.Steps.{Given, Indexes}
+use Rattle.grids.specs.Steps.{PassedBoxes, Indexes}
 use Rattle.grids.proofs.Writing.{mapped-more}
 use Rattle.grids.proofs.reading.set_keys.Statement.{statement}
 use Rattle.grids.proofs.reading.set_keys.Tie as tie
@@ -41,7 +41,7 @@ member : {n : ℕ} (s : List ℕ) → Indexes n s → (k : ℕ) → k < length s
 member s I k l = I .within (getD s k 0) (at-in s k l)
 
 -- its coordinates are small
-small : (rects s : List ℕ) {k : ℕ} {r : Rect} → Given rects → Indexes (count rects) s → k < length s → r ≡ rectAt rects (getD s k 0) → (r .x0 < 8192) × (r .y0 < 8192)
+small : (rects s : List ℕ) {k : ℕ} {r : Rect} → PassedBoxes rects → Indexes (count rects) s → k < length s → r ≡ rectAt rects (getD s k 0) → (r .x0 < 8192) × (r .y0 < 8192)
 small rects s {k} {r} G I l e =
     let i : Inside 8192 8192 r = rw e (G .inside (getD s k 0) (member s I k l)) in
     (omega (arith, i .wide, i .right), omega (arith, i .high, i .bottom))

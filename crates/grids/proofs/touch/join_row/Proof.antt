@@ -12,7 +12,7 @@ use Rattle.sets.specs.Joins.{Joins, Seen}
 use Rattle.sets.specs.Parents.{Joined}
 use Rattle.sets.proofs.Pairs.{pair-next}
 use Rattle.grids.specs.Boxes.{touch, Touch}
-use Rattle.grids.specs.Steps.{Given, Next}
+use Rattle.grids.specs.Steps.{PassedBoxes, Next}
 use Rattle.grids.proofs.Similar.{touching-comm}
 use Rattle.grids.proofs.SameParent.{pairs-passed}
 use Rattle.grids.proofs.touch.join_row.Statement.{statement}
@@ -25,7 +25,7 @@ record Row (rects : List ℕ) (limit : ℕ) (p : List ℕ) (i n : ℕ) (q : List
   seen : Joins n (Below n) (Seen (Touch rects limit) i j) q
   found : j < n → Touch rects limit i j
 
-module _ (rects : List ℕ) (limit : ℕ) (G : Given rects) {p : List ℕ} {i : ℕ} (li : i < count rects) where
+module _ (rects : List ℕ) (limit : ℕ) (G : PassedBoxes rects) {p : List ℕ} {i : ℕ} (li : i < count rects) where
   advance : {q : List ℕ} {j r : ℕ} → length q ≡ length p → Joins (count rects) (Below (count rects)) (Seen (Touch rects limit) i j) q → i < j
       → Next (touch rects limit) q i j (count rects) r → Row rects limit p i (count rects) q r
   advance {q} {j} {r} long J l N =
