@@ -15,7 +15,7 @@ use Rattle.layout.specs.declared.page.PagePlace.{PagePlace}
 use Rattle.layout.specs.declared.calls.Mapped.the-variants.{Place, Refused}
 use Rattle.layout.specs.declared.calls.MappedRect.the-variants.{Area, RefusedArea}
 use Rattle.layout.specs.ToPage.{toPage, rectToPage}
-use Rattle.layout.specs.Calls.{ToPage, RectToPage}
+use Rattle.layout.specs.Call.{ToPage, RectToPage}
 use Rattle.layout.proofs.Signed.{passed, passed-is}
 use Rattle.answers.specs.Mapped.{PlaceMapped, AreaMapped}
 
@@ -26,17 +26,17 @@ no-values false a rest u v h = refl
 
 module _ (sides : Sides) (shear shear-x : List ℤ) where
   pub place-answered : (p : Levelled) (q : PagePlace) → mag (q .0) < 2 ^ 63 → mag (q .1) < 2 ^ 63 → ToPage sides shear shear-x p (Place q) → PlaceMapped sides shear shear-x p (record { number = 0; x = passed (q .0); y = passed (q .1) })
-  place-answered p q f g t = record { is-number = t .is-number; values = rw (passed-is (q .0) f, passed-is (q .1) g) (t .values) }
+  place-answered p q f g t = record { number = t .number; values = rw (passed-is (q .0) f, passed-is (q .1) g) (t .values) }
 
   pub place-refused : (p : Levelled) (n : ℕ) → ToPage sides shear shear-x p (Refused n) → PlaceMapped sides shear shear-x p (record { number = n; x = pos 0; y = pos 0 })
   place-refused p n t =
       let q = toPage sides shear shear-x p in
-      record { is-number = t .is-number; values = no-values (eqb n 0) (q .0) (q .1 ∷ []) (q .0 ∷ q .1 ∷ []) (pos 0 ∷ pos 0 ∷ []) (t .values) }
+      record { number = t .number; values = no-values (eqb n 0) (q .0) (q .1 ∷ []) (q .0 ∷ q .1 ∷ []) (pos 0 ∷ pos 0 ∷ []) (t .values) }
 
   pub area-answered : (r : Rect) (q : PageRect) → RectToPage sides shear shear-x r (Area q) → AreaMapped sides shear shear-x r (record { number = 0; x0 = q .x0; y0 = q .y0; x1 = q .x1; y1 = q .y1 })
-  area-answered r q t = record { is-number = t .is-number; values = t .values }
+  area-answered r q t = record { number = t .number; values = t .values }
 
   pub area-refused : (r : Rect) (n : ℕ) → RectToPage sides shear shear-x r (RefusedArea n) → AreaMapped sides shear shear-x r (record { number = n; x0 = 0; y0 = 0; x1 = 0; y1 = 0 })
   area-refused r n t =
       let q = rectToPage sides shear shear-x r in
-      record { is-number = t .is-number; values = no-values (eqb n 0) (q .x0) (q .y0 ∷ q .x1 ∷ q .y1 ∷ []) (q .x0 ∷ q .y0 ∷ q .x1 ∷ q .y1 ∷ []) (0 ∷ 0 ∷ 0 ∷ 0 ∷ []) (t .values) }
+      record { number = t .number; values = no-values (eqb n 0) (q .x0) (q .y0 ∷ q .x1 ∷ q .y1 ∷ []) (q .x0 ∷ q .y0 ∷ q .x1 ∷ q .y1 ∷ []) (0 ∷ 0 ∷ 0 ∷ 0 ∷ []) (t .values) }

@@ -1,5 +1,5 @@
 // Levelling (crate `layout`); pw and ph are the page's sides, w and h the levelled picture's.
-ghost use Rattle.layout.specs.Calls.{LevelGray};
+ghost use Rattle.layout.specs.Call.{LevelGray};
 use layout::sides::Sides;
 
 #[no_mangle]
@@ -13,7 +13,8 @@ pub extern "C" fn lanegravel_level_gray(
     shear_x: &[i32],
     out: &mut [u8],
 ) -> u32
-    ensures { λ r. ⌜ LevelGray (record { pw = pw; ph = ph; w = w; h = h }) (now (gray .entry)) (now (shear .entry)) (now («shear_x» .entry)) (now (out .entry)) (now (out .exit)) r ⌝ }
+    ensures { λ r. ⌜ LevelGray (record { pw = pw; ph = ph; w = w; h = h }) (now (gray .entry)) (now (shear .entry)) (now («shear_x» .entry))
+        (now (out .entry)) (now (out .exit)) r ⌝ }
 {
     let sides = Sides { pw, ph, w, h };
     layout::calls::level_gray(sides, gray, shear, shear_x, out)

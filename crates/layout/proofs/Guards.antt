@@ -1,6 +1,6 @@
 -- What a guard's number gives: the core's facts where it is 0, and the refusal where it is not.
 -- Assumes nothing.
-use mathlib.Core.Path.{_≡_, sym, ap, subst, _∙_}
+use mathlib.Core.Path.{_≡_, refl, sym, ap, subst, _∙_}
 use mathlib.Core.Bool.{Bool, cond}
 use mathlib.Core.List.{List}
 use Prim.Native.Nat.{ℕ}
@@ -16,7 +16,7 @@ use Rattle.layout.specs.Sides.{rasterFits}
 use Rattle.layout.specs.Tables.{Sheared, tablesLong}
 use Rattle.layout.specs.Level.{levelled, Levelling}
 use Rattle.layout.specs.Steps.{Ready}
-use Rattle.layout.specs.Calls.{levelQuestions, mapQuestions, LevelGray}
+use Rattle.layout.specs.Call.{levelQuestions, mapQuestions, LevelGray}
 use Rattle.layout.proofs.Every.{and-parts}
 use Rattle.layout.proofs.Answers.{SidesAre, sides-yes, sheared-yes, raster-yes}
 use Rattle.layout.proofs.Levelling.{levelled-is}
@@ -38,13 +38,14 @@ module _ (sides : Sides) (shear shear-x : List ℤ) where
       }
 
   pub level-refused : (gray out : List ℕ) (q : ℕ) → q ≡ firstMissed (levelQuestions sides gray shear shear-x (length out)) → (q ≡ 0 → ⊥) → LevelGray sides gray shear shear-x out out q
-  level-refused gray out q e h = record { is-number = e; raster = kept-if-refused q (levelled sides gray shear shear-x) out h; levelling = λ z. absurd (h z) }
+  level-refused gray out q e h = record { number = e; refused = λ _. refl; answers = λ z. absurd (h z); levelling = λ z. absurd (h z) }
 
   pub level-accepted : (gray out out′ : List ℕ) (q : ℕ) → q ≡ firstMissed (levelQuestions sides gray shear shear-x (length out)) → q ≡ 0 → out′ ≡ levelled sides gray shear shear-x → LevelGray sides gray shear shear-x out out′ q
   level-accepted gray out out′ q e z h =
       record {
-        is-number = e;
-        raster = h ∙ ap (λ (n : ℕ). cond (eqb n 0) (levelled sides gray shear shear-x) out) (sym z);
+        number = e;
+        refused = λ n. absurd (n z);
+        answers = λ _. h;
         levelling = λ _. subst (Levelling sides gray shear shear-x) (sym h) (levelled-is sides shear shear-x (ready-yes gray out (sym e ∙ z) .sheared) gray);
       }
 

@@ -3,6 +3,7 @@ pub mod Raster
 pub mod Sides
 pub mod Tables
 pub mod Level
-pub mod Steps
 pub mod ToPage
-pub mod Calls
+pub mod Call
+-- Not needed to read the contracts.
+pub mod Steps

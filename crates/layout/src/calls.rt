@@ -1,7 +1,7 @@
 // The calls: a guard computes the number of the first missed question, and a core does the work.
 ghost use mathlib.Core.Path.{_≡_};
 ghost use Rattle.questions.specs.Questions.{firstMissed};
-ghost use Rattle.layout.specs.Calls.{levelQuestions, mapQuestions, LevelGray, ToPage, RectToPage};
+ghost use Rattle.layout.specs.Call.{levelQuestions, mapQuestions, LevelGray, ToPage, RectToPage};
 use crate::level;
 use crate::page;
 use crate::page::Levelled;

@@ -1,6 +1,6 @@
 -- `rect_to_page` meets its contract: each case of the enum has its number and values.
 use mathlib.Core.Path.{subst}
-use Rattle.layout.specs.Calls.{RectToPage}
+use Rattle.layout.specs.Call.{RectToPage}
 use Rattle.answers.proofs.Answered.{area-answered, area-refused}
 use borrow.Author.Needs.{needs}
 use Rattle.answers.proofs.rect_to_page.rect_to_page.Statement.{statement}

@@ -1,6 +1,6 @@
 -- `to_page` meets its contract: each case of the enum has its number and values.
 use mathlib.Core.Path.{subst}
-use Rattle.layout.specs.Calls.{ToPage}
+use Rattle.layout.specs.Call.{ToPage}
 use Rattle.answers.proofs.Answered.{place-answered, place-refused}
 use borrow.Author.Needs.{needs}
 use Rattle.answers.proofs.to_page.to_page.Statement.{statement}

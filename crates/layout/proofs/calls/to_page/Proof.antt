@@ -4,7 +4,7 @@ use mathlib.Core.List.{List, [], _∷_}
 use lib.IntN.{ℤ}
 use Rattle.layout.specs.declared.page.PagePlace.{PagePlace}
 use Rattle.layout.specs.ToPage.{toPage}
-use Rattle.layout.specs.Calls.{onePixel}
+use Rattle.layout.specs.Call.{onePixel}
 use Rattle.layout.proofs.Guards.{kept-if-refused, mapped-yes}
 use borrow.Author.Needs.{needs}
 use Rattle.layout.proofs.calls.to_page.Statement.{statement}
@@ -19,13 +19,13 @@ values q = q .0 ∷ q .1 ∷ []
 returns : tie.Need-returns
 returns c =
     let a = c .before .before .args in
-    record { is-number = c .before .map-question .ensures; values = kept-if-refused (c .before .map-question .result) (values (toPage (a .sides) (a .shear .now) (a .shear-x .now) (a .p))) [] (c .if1 .taken) }
+    record { number = c .before .map-question .ensures; values = kept-if-refused (c .before .map-question .result) (values (toPage (a .sides) (a .shear .now) (a .shear-x .now) (a .p))) [] (c .if1 .taken) }
 
 to-page-requires : tie.Need-to-page-requires
 to-page-requires c κs = let a = c .before .before .args in let yes = mapped-yes (a .sides) (a .shear .now) (a .shear-x .now) (onePixel (a .p)) (sym (c .before .map-question .ensures) ∙ c .if1 .left) in (yes .1 .0, (yes .0 .pw-some, (yes .1 .1 .right, yes .1 .1 .bottom)))
 
 returns-2 : tie.Need-returns-2
-returns-2 c = record { is-number = sym (c .before .if1 .left) ∙ c .before .before .map-question .ensures; values = ap values (c .to-page .ensures) }
+returns-2 c = record { number = sym (c .before .if1 .left) ∙ c .before .before .map-question .ensures; values = ap values (c .to-page .ensures) }
 
 pub to-page-spec : {M : Type 1} → statement M
 to-page-spec = tie.close (tie.spec map-question-requires returns to-page-requires returns-2)

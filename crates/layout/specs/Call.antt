@@ -29,12 +29,13 @@ levelQuestions sides gray shear shear-x room =
     ∷ (14, rasterFits (sides .w) (sides .h) room)
     ∷ []
 
--- `level_gray` returns the number of the first missed question; where that is 0, the raster is the levelled one, of which document 01's sentence
--- holds, and else it is as it was.
-pub record LevelGray (sides : Sides) (gray : List ℕ) (shear shear-x : List ℤ) (out out′ : List ℕ) (number : ℕ) : Type 0 where
-  pub is-number : number ≡ firstMissed (levelQuestions sides gray shear shear-x (length out))
-  pub raster : out′ ≡ cond (eqb number 0) (levelled sides gray shear shear-x) out
-  pub levelling : number ≡ 0 → Levelling sides gray shear shear-x out′
+-- What a call of `level_gray` promises: the number of the first missed question; a refused call leaves the raster; an accepted one leaves the levelled
+-- raster, of which document 01's sentence holds.
+pub record LevelGray (sides : Sides) (gray : List ℕ) (shear shear-x : List ℤ) (out out′ : List ℕ) (q : ℕ) : Type 0 where
+  pub number : q ≡ firstMissed (levelQuestions sides gray shear shear-x (length out))
+  pub refused : (q ≡ 0 → ⊥) → out′ ≡ out
+  pub answers : q ≡ 0 → out′ ≡ levelled sides gray shear shear-x
+  pub levelling : q ≡ 0 → Levelling sides gray shear shear-x out′
 
 -- `to_page` and `rect_to_page` put 1, 3, 4 and 6.
 abbrev pub mapQuestions : Sides → List ℤ → List ℤ → Rect → List Question
@@ -71,10 +72,10 @@ areaValues (RefusedArea n) = []
 
 -- `to_page` answers with the number of the first missed question, and with the page place where that is 0.
 pub record ToPage (sides : Sides) (shear shear-x : List ℤ) (p : Levelled) (answer : Mapped) : Type 0 where
-  pub is-number : mappedNumber answer ≡ firstMissed (mapQuestions sides shear shear-x (onePixel p))
+  pub number : mappedNumber answer ≡ firstMissed (mapQuestions sides shear shear-x (onePixel p))
   pub values : let q = toPage sides shear shear-x p in mappedValues answer ≡ cond (eqb (mappedNumber answer) 0) (q .0 ∷ q .1 ∷ []) []
 
 -- `rect_to_page` answers with the number of the first missed question, and with the page rectangle where that is 0.
 pub record RectToPage (sides : Sides) (shear shear-x : List ℤ) (r : Rect) (answer : MappedRect) : Type 0 where
-  pub is-number : areaNumber answer ≡ firstMissed (mapQuestions sides shear shear-x r)
+  pub number : areaNumber answer ≡ firstMissed (mapQuestions sides shear shear-x r)
   pub values : let q = rectToPage sides shear shear-x r in areaValues answer ≡ cond (eqb (areaNumber answer) 0) (q .x0 ∷ q .y0 ∷ q .x1 ∷ q .y1 ∷ []) []
