@@ -14,7 +14,8 @@ use Rattle.sets.specs.Listing.{membersOf, ReadAs}
 use Rattle.sets.proofs.Ascending.{ascending-below, sublist}
 use Rattle.sets.proofs.Grown.{Holds, closedSets-listed}
 use Rattle.sets.proofs.Sizes as Sizes
-use Rattle.rects.specs.Rects.{count, AllInside}
+use Rattle.rects.specs.Rects.{count}
+use Rattle.rects.specs.Steps.{AllInside}
 use Rattle.rects.proofs.Questions.{has-numbers}
 use Rattle.params.specs.Limits.{alignLimit}
 use Rattle.boxes.proofs.EveryBox.{rectangles-long}

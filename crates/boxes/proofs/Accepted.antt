@@ -12,16 +12,17 @@ use borrow.Author.Tests.{leb-true}
 use Rattle.lists.proofs.Every.{and-first, and-second}
 use Rattle.questions.specs.Questions.{firstMissed}
 use Rattle.questions.proofs.FirstMissed.{all-yes, none-missed, yes-parts}
-use Rattle.rects.specs.Rects.{count, rectAt, AllInside}
+use Rattle.rects.specs.Rects.{count, rectAt}
+use Rattle.rects.specs.Steps.{AllInside}
 use Rattle.rects.specs.declared.Rect.{Rect}
 use Rattle.rects.proofs.Questions.{Inside, all-inside-says}
 use Rattle.layout.proofs.Answers.{sides-say, raster-yes}
 use Rattle.params.specs.declared.settings.RulingsParams.{RulingsParams}
 use Rattle.params.specs.Scan.{dpiGiven, xheightInRange, xheightQuestions}
 use Rattle.params.specs.Settings.{settingsQuestions}
-use Rattle.params.specs.Settled.{Settled}
+use Rattle.params.specs.Steps.{SettingsPassed}
 use Rattle.params.proofs.Passed.{settings-passed}
-use Rattle.ink.specs.Ink.{Readable}
+use Rattle.ink.specs.Steps.{Readable}
 use Rattle.boxes.specs.Limits.{limitsOf}
 use Rattle.boxes.specs.Call.{Given, Lent, hasRoom, givenQuestions, questions}
 use Rattle.boxes.specs.Steps.{Ready}
@@ -34,7 +35,7 @@ readable mask w h r a b full I =
 
 -- what the core needs, from plain facts: whoever asked the questions that show them, in whatever order and among whatever others
 pub ready : (w h dpi : ℕ) (xheight : Float) (mask glyphs : List ℕ) (p : RulingsParams) {rs ms : List ℕ} {cs : List Float}
-    → w ≤ 8192 → h ≤ 8192 → length mask ≡ w * h → AllInside w h glyphs → Settled p xheight
+    → w ≤ 8192 → h ≤ 8192 → length mask ≡ w * h → AllInside w h glyphs → SettingsPassed p xheight
     → 4 * count glyphs ≤ length rs → count glyphs ≤ length ms → count glyphs ≤ length cs
     → Ready mask w glyphs (limitsOf dpi xheight p) rs ms cs
 unfolding limitsOf
@@ -59,7 +60,7 @@ accepted-ready g l none =
     let b = leb n (length (l .marks)) in
     let c = leb n (length (l .coverages)) in
     let ab = and-first (a && b) c (parts .1 .0) in
-    let settled : Settled (g .settings) (g .xheight) = record {
+    let settled : SettingsPassed (g .settings) (g .xheight) = record {
       settings = none-missed (settingsQuestions (g .settings)) (yes .1 .1 .1 .1 .1);
       xheight-passed = none-missed (xheightQuestions (g .xheight)) (and-second (dpiGiven (g .dpi)) (xheightInRange (g .xheight)) (yes .1 .0), tt);
     } in

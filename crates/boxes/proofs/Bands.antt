@@ -12,7 +12,8 @@ use Rattle.math.specs.Select.{minimumNumber}
 use Rattle.math.specs.Sum.{whole}
 use Rattle.rects.specs.Rects.{widthOf, heightOf}
 use Rattle.rects.specs.declared.Rect.{Rect}
-use Rattle.ink.specs.Ink.{Ink, rowInk, columnInk, Readable}
+use Rattle.ink.specs.Ink.{Ink, rowInk, columnInk}
+use Rattle.ink.specs.Steps.{Readable}
 use Rattle.ink.proofs.Counts.{some-any, readable-inside}
 use Rattle.ink.proofs.Runs.{longest-same}
 use Rattle.boxes.specs.Tests.{topEdge, bottomEdge, leftEdge, rightEdge, runShare, edgeCoverage}

@@ -12,7 +12,8 @@ use Rattle.lists.proofs.Keep.{kept-in, below-in}
 use Rattle.math.proofs.Bound.{AtMost, min-at-most}
 use Rattle.math.proofs.Quotient.{quotient-at-most}
 use Rattle.math.proofs.SumBound.{Each}
-use Rattle.rects.specs.Rects.{widthOf, heightOf, count, rectAt, AllInside}
+use Rattle.rects.specs.Rects.{widthOf, heightOf, count, rectAt}
+use Rattle.rects.specs.Steps.{AllInside}
 use Rattle.rects.specs.declared.Rect.{Rect}
 use Rattle.ink.specs.Ink.{Ink}
 use Rattle.ink.specs.Places.{longestRun}

@@ -14,7 +14,8 @@ use borrow.Author.Tests.{not-true}
 use Rattle.lists.specs.Lists.{In, below, keep}
 use Rattle.lists.proofs.Keep.{map-append, keep-append, length-below, kept-in, in-kept, in-below, below-in, at-in, getD-map}
 use Rattle.lists.proofs.Sizes.{keep-size-le, keep-one, keep-past}
-use Rattle.rects.specs.Rects.{widthOf, heightOf, count, rectAt, Inside, AllInside}
+use Rattle.rects.specs.Rects.{widthOf, heightOf, count, rectAt}
+use Rattle.rects.specs.Steps.{Inside, AllInside}
 use Rattle.rects.specs.declared.Rect.{Rect}
 use Rattle.rects.proofs.Questions.{has-numbers}
 use Rattle.ink.specs.Ink.{Ink}

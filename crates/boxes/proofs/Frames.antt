@@ -9,9 +9,11 @@ use lib.Ieee.{Float, binary64, mul}
 use borrow.Author.Tests.{lt-ltb, le-ltb, ltb-true}
 use Rattle.lists.proofs.Every.{and-first, and-second}
 use Rattle.math.specs.Sum.{whole}
-use Rattle.rects.specs.Rects.{widthOf, heightOf, Inside}
+use Rattle.rects.specs.Rects.{widthOf, heightOf}
+use Rattle.rects.specs.Steps.{Inside}
 use Rattle.rects.specs.declared.Rect.{Rect}
-use Rattle.ink.specs.Ink.{Ink, inkAt, rowInk, columnInk, Readable}
+use Rattle.ink.specs.Ink.{Ink, inkAt, rowInk, columnInk}
+use Rattle.ink.specs.Steps.{Readable}
 use Rattle.ink.specs.Places.{over, firstPlace, lastEnd}
 use Rattle.ink.proofs.Counts.{readable-inside}
 use Rattle.ink.proofs.Places.{last-is, first-before-end}

@@ -9,7 +9,8 @@ use lib.Ieee.{Float, binary64, div}
 use Rattle.math.specs.Sum.{whole}
 use Rattle.rects.specs.Rects.{widthOf, heightOf}
 use Rattle.rects.specs.declared.Rect.{Rect}
-use Rattle.ink.specs.Ink.{Ink, inkIn, Readable}
+use Rattle.ink.specs.Ink.{Ink, inkIn}
+use Rattle.ink.specs.Steps.{Readable}
 use Rattle.ink.proofs.Counts.{readable-inside}
 use Rattle.boxes.specs.Tests.{innerHalf, innerInk}
 

@@ -8,9 +8,11 @@ use lib.Ieee.{Float}
 use lib.ListN.{length}
 use lib.Seq.{sets}
 use Rattle.lists.specs.Lists.{written}
-use Rattle.rects.specs.Rects.{count, rectAt, AllInside}
+use Rattle.rects.specs.Rects.{count, rectAt}
+use Rattle.rects.specs.Steps.{AllInside}
 use Rattle.rects.specs.declared.Rect.{Rect}
-use Rattle.ink.specs.Ink.{Ink, inkAt, linesOf, lineInk, Readable}
+use Rattle.ink.specs.Ink.{Ink, inkAt}
+use Rattle.ink.specs.Steps.{linesOf, lineInk, Readable}
 use Rattle.boxes.specs.declared.limits.Limits.{Limits}
 use Rattle.boxes.specs.declared.found.CheckBox.{CheckBox}
 use Rattle.boxes.specs.declared.found.Found.{Found}

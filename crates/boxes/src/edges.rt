@@ -1,7 +1,8 @@
 // Four straight edges. A band of rows or columns absorbs the staircase of a rotated line; unbroken is what a round letter lacks.
 ghost use mathlib.Core.Path.{_≡_};
 ghost use Prim.Native.Nat.{_+_, _-_, _≤_, _<_, _^_};
-ghost use Rattle.ink.specs.Ink.{inkAt, Readable};
+ghost use Rattle.ink.specs.Ink.{inkAt};
+ghost use Rattle.ink.specs.Steps.{Readable};
 ghost use Rattle.boxes.specs.Tests.{edgeCoverage};
 ghost use Rattle.boxes.specs.Steps.{topBand, bottomBand, leftBand, rightBand, lineShare};
 use rects::Rect;

@@ -1,7 +1,8 @@
 // The tests on one glyph box, in the Rust's order.
 ghost use mathlib.Core.Path.{_≡_};
 ghost use Prim.Native.Nat.{_≤_};
-ghost use Rattle.ink.specs.Ink.{inkAt, Readable};
+ghost use Rattle.ink.specs.Ink.{inkAt};
+ghost use Rattle.ink.specs.Steps.{Readable};
 ghost use Rattle.boxes.specs.Steps.{foundIn, foundOf};
 use crate::frame::Framed;
 use crate::limits::Limits;

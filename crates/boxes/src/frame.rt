@@ -1,6 +1,7 @@
 // The frame: the glyph box less the outer rows and columns that are almost empty, as the tip of a tick poking out of the box is.
 ghost use mathlib.Core.Path.{_≡_};
-ghost use Rattle.ink.specs.Ink.{inkAt, Readable};
+ghost use Rattle.ink.specs.Ink.{inkAt};
+ghost use Rattle.ink.specs.Steps.{Readable};
 ghost use Rattle.boxes.specs.Steps.{framedOf};
 use rects::Rect;
 

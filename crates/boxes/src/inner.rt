@@ -3,7 +3,8 @@ ghost use mathlib.Core.Path.{_≡_};
 ghost use mathlib.Core.Bool.{cond};
 ghost use Prim.Native.Nat.{_+_, _/_, _≤_, _<_, _^_};
 ghost use lib.Ieee.{le};
-ghost use Rattle.ink.specs.Ink.{inkAt, Readable};
+ghost use Rattle.ink.specs.Ink.{inkAt};
+ghost use Rattle.ink.specs.Steps.{Readable};
 ghost use Rattle.boxes.specs.Tests.{innerHalf, innerInk};
 use rects::Rect;
 

@@ -16,7 +16,8 @@ use Rattle.math.proofs.Sums.{EachLe, total-le, sum-bytes, whole-value}
 use Rattle.rects.specs.declared.Rect.{Rect}
 use Rattle.contrast.specs.Pixels.{pixel, span, beside, pixelsIn, samples, darkest}
 use Rattle.contrast.specs.Median.{insert, sorted, median}
-use Rattle.contrast.specs.Contrast.{OnPicture, contrastOf}
+use Rattle.contrast.specs.Contrast.{contrastOf}
+use Rattle.contrast.specs.Steps.{OnPicture}
 use Rattle.contrast.proofs.Lines.{darkest-bytes, darkest-number}
 use Rattle.contrast.proofs.Mean.{places-fit}
 

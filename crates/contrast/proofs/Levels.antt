@@ -1,4 +1,4 @@
--- What the counts of samples say of their level, going down from 255. Assumes nothing.
+-- What the counts of samples say of their level, going down from 255.
 use mathlib.Core.Path.{_≡_, refl, sym, ap, _∙_}
 use mathlib.Core.Logic.{_⊎_, inl, inr}
 use mathlib.Core.List.{List}
@@ -8,7 +8,7 @@ use native.Mathlib.Omega.{arith}
 use lib.Dec.{leb, eqb}
 use lib.ListN.{length, getD}
 use Rattle.lists.proofs.Sizes.{keep-size-le}
-use Rattle.contrast.specs.Counting.{many, Tallied}
+use Rattle.contrast.specs.Steps.{many, Tallied}
 use Rattle.contrast.specs.Median.{median}
 use Rattle.contrast.proofs.Many.{at-least, at-least-zero}
 use Rattle.contrast.proofs.Median.{median-is, median-none}

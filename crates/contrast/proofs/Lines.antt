@@ -1,4 +1,4 @@
--- The darkest pixels across a ruling: by rows, and by columns that are darkened row by row. Assumes nothing.
+-- The darkest pixels across a ruling: by rows, and by columns that are darkened row by row.
 use mathlib.Core.Path.{_≡_, refl, sym, ap, ap₂, _∙_}
 use mathlib.Core.Bool.{Bool, true, false}
 use mathlib.Core.List.{List, [], _∷_, _++_, map, append-assoc, append-nil}
@@ -17,7 +17,7 @@ use Rattle.math.proofs.Sums.{EachLe, total-le}
 use Rattle.rects.specs.declared.Rect.{Rect}
 use Rattle.rects.specs.Rects.{widthOf, heightOf}
 use Rattle.contrast.specs.Pixels.{pixel, run, span, darkestOf, darkest}
-use Rattle.contrast.specs.Counting.{line, columnsDarkest, rowsDarkest, Darkened, RowsInside, placesAlong}
+use Rattle.contrast.specs.Steps.{line, columnsDarkest, rowsDarkest, Darkened, RowsInside, placesAlong}
 use Rattle.contrast.proofs.Pixels.{values-same, row-inside, run-length}
 
 -- ---- the darkest of some pixels

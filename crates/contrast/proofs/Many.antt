@@ -1,4 +1,4 @@
--- How many entries pass a test, and the 256 counts: a count is a sum over the parts of a list, in whatever order they come. Assumes nothing.
+-- How many entries pass a test, and the 256 counts: a count is a sum over the parts of a list, in whatever order they come.
 use mathlib.Core.Path.{_≡_, refl, sym, ap, _∙_}
 use mathlib.Core.Bool.{Bool, true, false}
 use mathlib.Core.List.{List, [], _∷_, _++_}
@@ -14,7 +14,7 @@ use borrow.Author.Tests.{leb-true, leb-false, eqb-true, eqb-false, le-leb, lt-le
 use Rattle.lists.specs.Lists.{one, keep}
 use Rattle.lists.proofs.Keep.{keep-append}
 use Rattle.lists.proofs.Sizes.{keep-size, keep-size-split}
-use Rattle.contrast.specs.Counting.{many, Counted, Tallied}
+use Rattle.contrast.specs.Steps.{many, Counted, Tallied}
 
 pub many-append : (q : ℕ → Bool) (xs ys : List ℕ) → many q (xs ++ ys) ≡ many q xs + many q ys
 many-append q xs ys = ap length (keep-append q xs ys) ∙ length-append (keep q xs) (keep q ys)

@@ -1,4 +1,4 @@
--- The contrast from whole numbers: level, sum and count are exact as floats, so that only the quotient and the difference are rounded. Assumes nothing.
+-- The contrast from whole numbers: level, sum and count are exact as floats, so that only the quotient and the difference are rounded.
 use mathlib.Core.Path.{_≡_, sym, ap, ap₂, _∙_, subst}
 use mathlib.Core.Bool.{Bool, true, false}
 use mathlib.Core.List.{List, map}
@@ -14,8 +14,8 @@ use Rattle.math.proofs.Mean.{mean-within}
 use Rattle.rects.specs.declared.Rect.{Rect}
 use Rattle.contrast.specs.Pixels.{samples, darkest}
 use Rattle.contrast.specs.Median.{median}
-use Rattle.contrast.specs.Contrast.{OnPicture, contrastOf, Contrasted}
-use Rattle.contrast.specs.Counting.{placesAlong}
+use Rattle.contrast.specs.Contrast.{contrastOf}
+use Rattle.contrast.specs.Steps.{OnPicture, Contrasted, placesAlong}
 use Rattle.contrast.proofs.Lines.{darkest-bytes, darkest-number}
 
 -- a ruling has places along it, and at most as many as a side of the picture

@@ -1,4 +1,4 @@
--- Why a median can be read off counts: an entry of an ascending list is at least v exactly when enough entries are. Assumes nothing.
+-- Why a median can be read off counts: an entry of an ascending list is at least v exactly when enough entries are.
 use mathlib.Core.Path.{_≡_, refl, sym, ap, _∙_}
 use mathlib.Core.Bool.{Bool, true, false, cond}
 use mathlib.Core.List.{List, [], _∷_}
@@ -10,7 +10,7 @@ use lib.ListN.{length, getD}
 use borrow.Author.Tests.{leb-true, leb-false, ltb-true, ltb-false, le-leb}
 use Rattle.lists.specs.Lists.{one}
 use Rattle.lists.proofs.Sizes.{keep-size, keep-size-le}
-use Rattle.contrast.specs.Counting.{many}
+use Rattle.contrast.specs.Steps.{many}
 use Rattle.contrast.specs.Median.{insert, sorted, median}
 use Rattle.contrast.proofs.Many.{at-least-zero}
 

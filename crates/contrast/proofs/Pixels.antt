@@ -1,4 +1,4 @@
--- Pixels row by row: where they stand in the raster, and how many there are. Assumes nothing.
+-- Pixels row by row: where they stand in the raster, and how many there are.
 use mathlib.Core.Path.{_≡_, refl, sym, ap, _∙_}
 use mathlib.Core.Bool.{Bool}
 use mathlib.Core.List.{List, [], _∷_, _++_, map, append-nil}
@@ -11,7 +11,7 @@ use Rattle.lists.specs.Lists.{below, concat}
 use Rattle.lists.proofs.Keep.{map-append, map-map, map-same, concat-append, values-more, length-values}
 use Rattle.lists.proofs.Sizes.{keep-size-le}
 use Rattle.contrast.specs.Pixels.{pixel, run, pixelsIn}
-use Rattle.contrast.specs.Counting.{many, line, RoomFor, Counted}
+use Rattle.contrast.specs.Steps.{many, line, RoomFor, Counted}
 use Rattle.contrast.proofs.Many.{many-append}
 
 -- values of two functions that agree

@@ -1,4 +1,4 @@
--- The places beside a span: two runs, cut where the picture ends. Assumes nothing.
+-- The places beside a span: two runs, cut where the picture ends.
 use mathlib.Core.Path.{_≡_, sym, ap, _∙_}
 use mathlib.Core.Bool.{Bool, true, false}
 use mathlib.Core.List.{List, [], _∷_, _++_, append-assoc, append-nil}

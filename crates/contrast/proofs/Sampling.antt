@@ -1,4 +1,4 @@
--- The samples lie in two areas, and the counts have room for them: at most eight places wide, and as long as the ruling. Assumes nothing.
+-- The samples lie in two areas, and the counts have room for them: at most eight places wide, and as long as the ruling.
 use mathlib.Core.Path.{_≡_, sym, ap₂, _∙_}
 use mathlib.Core.Bool.{Bool, true, false}
 use mathlib.Core.List.{List, _++_}
@@ -14,7 +14,7 @@ use Rattle.rects.proofs.Questions.{Inside}
 use Rattle.contrast.specs.declared.areas.Strips.{Strips}
 use Rattle.contrast.specs.declared.areas.Area.{Area}
 use Rattle.contrast.specs.Pixels.{run, pixelsIn, samples}
-use Rattle.contrast.specs.Counting.{many, line, RoomFor, Clear, Counted, Beside, AreaInside, Sampled, pixelsOf}
+use Rattle.contrast.specs.Steps.{many, line, RoomFor, Clear, Counted, Beside, AreaInside, Sampled, pixelsOf}
 use Rattle.contrast.proofs.Many.{counted-then}
 use Rattle.contrast.proofs.Pixels.{row-pixels, rows-more, rows-split, columns-split, pixels-number, run-length}
 

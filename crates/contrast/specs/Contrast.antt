@@ -1,23 +1,14 @@
 -- The contrast of a ruling: the paper's level less the mean of the darkest pixels across the ruling.
-use mathlib.Core.Path.{_≡_}
-use Prim.Native.Nat.{ℕ, _*_, _≤_}
+use Prim.Native.Nat.{ℕ, _*_}
 use mathlib.Core.Bool.{Bool}
 use mathlib.Core.List.{List, map}
 use lib.ListN.{length}
 use lib.Ieee.{Float, binary64, sub, div}
 use Rattle.math.specs.Sum.{pairwiseSum, whole, total}
 use Rattle.math.specs.Near.{Within}
-use Rattle.rects.specs.Rects.{Inside}
 use Rattle.rects.specs.declared.Rect.{Rect}
 use Rattle.contrast.specs.Pixels.{darkest, samples}
 use Rattle.contrast.specs.Median.{median}
-
--- A ruling's rectangle on a picture of w columns and h rows.
-pub record OnPicture (raster : List ℕ) (w h : ℕ) (r : Rect) : Type 0 where
-  pub full : length raster ≡ w * h
-  pub narrow : w ≤ 8192
-  pub low : h ≤ 8192
-  pub inside : Inside w h r
 
 -- The samples' median minus sum over count, in f64: one rounding in the division and one in the subtraction.
 abbrev pub medianLessMean : List ℕ → List ℕ → Float
@@ -32,8 +23,3 @@ abbrev pub NearContrast : List ℕ → ℕ → ℕ → Rect → Bool → Float �
 NearContrast raster w h r horizontal x =
     let dark = darkest raster w r horizontal in
     Within 45 x (median (samples raster w h r horizontal) * length dark) (total dark) (length dark)
-
--- What is promised of a ruling's contrast x.
-pub record Contrasted (raster : List ℕ) (w h : ℕ) (r : Rect) (horizontal : Bool) (x : Float) : Type 0 where
-  pub value : x ≡ contrastOf raster w h r horizontal
-  pub near : NearContrast raster w h r horizontal x

@@ -1,8 +1,8 @@
 // Where the samples of the paper lie: two areas, on either side of the ruling, 3 to 6 pixels away.
 ghost use mathlib.Core.Path.{_≡_};
 ghost use Prim.Native.Nat.{_+_, _-_, _≤_, _<_, min};
-ghost use Rattle.rects.specs.Rects.{Inside};
-ghost use Rattle.contrast.specs.Counting.{Beside, Sampled};
+ghost use Rattle.rects.specs.Steps.{Inside};
+ghost use Rattle.contrast.specs.Steps.{Beside, Sampled};
 use rects::Rect;
 
 // Two runs of places, each given by its first and its number.

@@ -5,7 +5,7 @@ ghost use Prim.Native.Nat.{ℕ, _+_, _≤_, _<_, min};
 ghost use lib.ListN.{length, getD};
 ghost use Rattle.lists.specs.Lists.{below};
 ghost use Rattle.math.specs.Sum.{total};
-ghost use Rattle.contrast.specs.Counting.{columnsDarkest, Darkened, RowsInside};
+ghost use Rattle.contrast.specs.Steps.{columnsDarkest, Darkened, RowsInside};
 
 fn darker(a: u8, b: u8) -> u8
     ensures { λ r. ⌜ r ≡ min a b ⌝ }

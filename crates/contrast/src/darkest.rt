@@ -3,10 +3,9 @@ ghost use mathlib.Core.Path.{_≡_};
 ghost use Prim.Native.Nat.{_+_, _≤_};
 ghost use lib.ListN.{length};
 ghost use Rattle.math.specs.Sum.{total};
-ghost use Rattle.rects.specs.Rects.{Inside};
-ghost use Rattle.contrast.specs.Contrast.{OnPicture};
+ghost use Rattle.rects.specs.Steps.{Inside};
+ghost use Rattle.contrast.specs.Steps.{OnPicture, line, rowsDarkest, RowsInside, placesAlong};
 ghost use Rattle.contrast.specs.Pixels.{darkest, darkestOf};
-ghost use Rattle.contrast.specs.Counting.{line, rowsDarkest, RowsInside, placesAlong};
 use rects::Rect;
 
 // The darkest of n pixels from start on.

@@ -3,7 +3,7 @@ ghost use mathlib.Core.Path.{_≡_};
 ghost use mathlib.Core.List.{List};
 ghost use Prim.Native.Nat.{ℕ, _<_, _≤_, _^_};
 ghost use lib.ListN.{length};
-ghost use Rattle.contrast.specs.Counting.{Tallied, TallyOf};
+ghost use Rattle.contrast.specs.Steps.{Tallied, TallyOf};
 ghost use Rattle.contrast.specs.Median.{median};
 
 // Goes down from 255, since paper is bright, until half the samples, rounded up, are at least as bright.

@@ -1,5 +1,5 @@
 // The contrast of one ruling: the level of the paper beside it less the mean of the darkest pixels across it.
-ghost use Rattle.contrast.specs.Contrast.{OnPicture, Contrasted};
+ghost use Rattle.contrast.specs.Steps.{OnPicture, Contrasted};
 
 mod areas;
 mod columns;

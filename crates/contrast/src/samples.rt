@@ -2,9 +2,8 @@
 ghost use mathlib.Core.Path.{_≡_};
 ghost use Prim.Native.Nat.{_+_, _*_, _≤_};
 ghost use lib.ListN.{length};
-ghost use Rattle.contrast.specs.Contrast.{OnPicture};
+ghost use Rattle.contrast.specs.Steps.{OnPicture, RoomFor, Clear, Counted, Sample, line, AreaInside, pixelsOf};
 ghost use Rattle.contrast.specs.Pixels.{samples};
-ghost use Rattle.contrast.specs.Counting.{RoomFor, Clear, Counted, Sample, line, AreaInside, pixelsOf};
 use crate::areas::Area;
 use rects::Rect;
 

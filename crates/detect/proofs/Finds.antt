@@ -8,10 +8,11 @@ use lib.Ieee.{Float}
 use lib.ListN.{length, getD, take}
 use Rattle.lists.specs.Lists.{written}
 use Rattle.sets.specs.Listing.{membersOf, ReadAs}
-use Rattle.rects.specs.Rects.{count, AllInside}
+use Rattle.rects.specs.Rects.{count}
+use Rattle.rects.specs.Steps.{AllInside}
 use Rattle.finding_lists.specs.Columns.{Columns}
 use Rattle.finding_lists.proofs.Storing.{room-for-fewer}
-use Rattle.findings.specs.Made.{Rulings, Tables, Boxes, freePlaces, freeCount, folds}
+use Rattle.findings.specs.Made.{RulingLists, TableLists, BoxLists, freePlaces, freeCount, folds}
 use Rattle.findings.specs.Steps.{AllGiven, TablesGiven, NumbersGiven, GridsGiven, FindRoom, PageFound}
 use Rattle.page.specs.Page as Page
 use Rattle.page.specs.Page.{Page}
@@ -20,8 +21,8 @@ use Rattle.page.specs.Lent.{RuleLists, MarkLists, Lent}
 use Rattle.page.specs.Questions.{roomy}
 use Rattle.page.specs.Steps.{Room}
 use Rattle.page.specs.Call.{countsOf}
-use Rattle.page_findings.specs.Sources as Front
-use Rattle.page_findings.specs.Sources.{Sources, Work, Long, Ready, Left}
+use Rattle.page_findings.specs.Steps as Front
+use Rattle.page_findings.specs.Steps.{Sources, Work, Long, Ready, Left}
 use Rattle.ruled_laws.proofs.Ruled as Ruled
 use Rattle.boxed_laws.proofs.Boxed as Boxed
 use Rattle.boxed_laws.proofs.Room.{room-says}

@@ -9,12 +9,12 @@ use lib.ListN.{length, getD}
 use Rattle.lists.specs.Lists.{below}
 use Rattle.rects.specs.Rects.{count, rectAt}
 use Rattle.rects.specs.Around.{around}
-use Rattle.layout.specs.Tables.{Sheared}
+use Rattle.layout.specs.Steps.{Sheared}
 use Rattle.evidence.specs.declared.finding.Finding.{Finding}
 use Rattle.evidence.specs.Finding.{kindNumber}
 use Rattle.evidence.specs.Kinds.{tableFinding, freeFinding, gridFinding, foldFinding}
 use Rattle.findings.specs.Keys.{inOrder, Stands, Ordered}
-use Rattle.findings.specs.Made.{Scan, Rulings, Tables, Boxes, greatestOf, tableAt, freePlaces, freeCount, freeOf, folds, foldAt, gridOf, made}
+use Rattle.findings.specs.Made.{Scan, RulingLists, TableLists, BoxLists, greatestOf, tableAt, freePlaces, freeCount, freeOf, folds, foldAt, gridOf, made}
 use Rattle.findings.specs.Pairing.{FindingsPaired}
 use Rattle.findings.proofs.OnPage.{corner-small}
 use Rattle.findings.proofs.Ordered.{origin, ordered}
@@ -31,7 +31,7 @@ small-both xs ys a b m g s = ⊎-elim (λ (u : Stands xs m g). a m g u) (λ (u :
 items-small : (n : ℕ) (f : ℕ → Finding) → ((k : ℕ) → f k .bbox .x0 < 8192) → Small (map f (below n))
 items-small n f h m g s = let u = stands-item n f m g s in subst (λ (x : Finding). x .bbox .x0 < 8192) (sym (u .1)) (h m)
 
-module _ (s : Scan) (dpi : ℕ) (r : Rulings) (printed faint : List ℕ) (t : Tables) (free : List ℕ) (b : Boxes) (S : Sheared (s .sides) (s .shear) (s .shear-x)) where
+module _ (s : Scan) (dpi : ℕ) (r : RulingLists) (printed faint : List ℕ) (t : TableLists) (free : List ℕ) (b : BoxLists) (S : Sheared (s .sides) (s .shear) (s .shear-x)) where
   abbrev places : List ℕ
   places = freePlaces printed free
 

@@ -12,9 +12,8 @@ use Rattle.lists.proofs.Written.{written-run}
 use Rattle.rects.specs.Rects.{count}
 use Rattle.layout.specs.declared.sides.Sides.{Sides}
 use Rattle.params.specs.declared.settings.RulingsParams.{RulingsParams}
-use Rattle.findings.specs.Keys.{tableKey, freeKey, freeKeys, foldKey}
+use Rattle.findings.specs.Steps.{tableKey, freeKey, freeKeys, foldKey, KeysStored, FirstKeyed}
 use Rattle.findings.specs.Made.{freeCount}
-use Rattle.findings.specs.Steps.{KeysStored, FirstKeyed}
 
 pub free-keys-long : (sides : Sides) (shear shear-x : List ℤ) (p : RulingsParams) (rects places : List ℕ) → length (freeKeys sides shear shear-x p rects places) ≡ freeCount p places
 free-keys-long sides shear shear-x p rects places = length-values (λ k. freeKey sides shear shear-x rects places) (freeCount p places)

@@ -21,9 +21,8 @@ use Rattle.finding_lists.specs.Columns.{Columns}
 use Rattle.finding_lists.specs.Steps.{Roomy, WroteOne, Wrote, RanksGiven}
 use Rattle.finding_lists.proofs.Storing.{stored-none}
 use Rattle.finding_lists.proofs.Writing.{writing-none, writing-more}
-use Rattle.findings.specs.Keys.{freeKey, freeKeys}
-use Rattle.findings.specs.Made.{Scan, Rulings, onPage, meanAt, greatestOf, horizontals, verticals, longest, freeOf, freeCount}
-use Rattle.findings.specs.Steps.{KeysStored}
+use Rattle.findings.specs.Steps.{freeKey, freeKeys, KeysStored}
+use Rattle.findings.specs.Made.{Scan, RulingLists, onPage, meanAt, greatestOf, horizontals, verticals, longest, freeOf, freeCount}
 
 -- what the answer of the test says
 pub short-of : (m n : ℕ) {r : Bool} → r ≡ leb m n → not r ≡ true → n < m
@@ -64,7 +63,7 @@ both-counted q (x ∷ xs) = go (q x) (both-counted q xs)
     go false e = omega arith
 
 -- the finding from what was counted
-pub from-facts : (s : Scan) (r : Rulings) (places : List ℕ) {found : Finding} {bbox : PageRect} {q : Rect} {horizontal vertical long : ℕ} {mean : Float}
+pub from-facts : (s : Scan) (r : RulingLists) (places : List ℕ) {found : Finding} {bbox : PageRect} {q : Rect} {horizontal vertical long : ℕ} {mean : Float}
     → found ≡ freeFinding (s .settings) (s .caps) bbox (length places) horizontal vertical long mean → bbox ≡ onPage s q → q ≡ around (r .rects) places → horizontal ≡ horizontals r places
     → vertical ≡ verticals r places → long ≡ longest r places → mean ≡ meanAt (r .contrasts) places → found ≡ freeOf s r places
 unfolding freeOf greatestOf

@@ -7,8 +7,9 @@ use lib.Ieee.{Float}
 use lib.ListN.{length}
 use Rattle.lists.specs.Lists.{In}
 use Rattle.lists.proofs.Keep.{in-at}
-use Rattle.rects.specs.Rects.{rectAt, Inside}
-use Rattle.rects.specs.Around.{around, Places}
+use Rattle.rects.specs.Rects.{rectAt}
+use Rattle.rects.specs.Steps.{Inside, Places}
+use Rattle.rects.specs.Around.{around}
 use Rattle.rects.proofs.Around.{around-inside}
 use Rattle.findings.specs.Steps.{AllGiven, RectsGiven, SetGiven, GridRectsGiven, GridsGiven}
 

@@ -4,9 +4,9 @@ use native.Mathlib.Omega.{arith}
 use mathlib.Core.List.{List}
 use lib.IntN.{ℤ, pos, negsuc}
 use Rattle.rects.specs.declared.Rect.{Rect}
-use Rattle.rects.specs.Rects.{Inside}
+use Rattle.rects.specs.Steps.{Inside}
 use Rattle.layout.specs.declared.sides.Sides.{Sides}
-use Rattle.layout.specs.Tables.{Sheared}
+use Rattle.layout.specs.Steps.{Sheared}
 use Rattle.layout.specs.ToPage.{nearest, least, toPage, rectToPage}
 use Rattle.findings.specs.Steps.{PlacesGiven}
 

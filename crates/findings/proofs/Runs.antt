@@ -13,9 +13,8 @@ use Rattle.rects.specs.Rects.{count}
 use Rattle.ranks.specs.Ranks.{Ranked, Room}
 use Rattle.layout.specs.declared.sides.Sides.{Sides}
 use Rattle.params.specs.declared.settings.RulingsParams.{RulingsParams}
-use Rattle.findings.specs.Keys.{tableKey, foldKey, freeKeys, firstKeys, gridKey, gridKeys}
+use Rattle.findings.specs.Steps.{tableKey, foldKey, freeKeys, firstKeys, gridKey, gridKeys, FirstKeyed, RankRoom, AllRanked}
 use Rattle.findings.specs.Made.{freeCount}
-use Rattle.findings.specs.Steps.{FirstKeyed, RankRoom, AllRanked}
 use Rattle.findings.proofs.FirstKeys.{free-keys-long}
 
 -- a part from the front is as long as it says

@@ -15,9 +15,9 @@ use Rattle.layout.specs.declared.sides.Sides.{Sides}
 use Rattle.params.specs.declared.settings.RulingsParams.{RulingsParams}
 use Rattle.finding_lists.specs.Columns.{Columns}
 use Rattle.finding_lists.specs.Steps.{Roomy}
-use Rattle.findings.specs.Keys.{firstKeys, gridKeys, keyOf}
-use Rattle.findings.specs.Made.{Scan, Rulings, Tables, Boxes, folds, freePlaces, freeCount, firstFindings, gridFindings}
-use Rattle.findings.specs.Steps.{NumbersGiven, AllGiven, RectsGiven, AllRanked, WriteRoom, ArrangeRoom}
+use Rattle.findings.specs.Keys.{keyOf}
+use Rattle.findings.specs.Steps.{firstKeys, gridKeys, NumbersGiven, AllGiven, RectsGiven, AllRanked, WriteRoom, ArrangeRoom}
+use Rattle.findings.specs.Made.{Scan, RulingLists, TableLists, BoxLists, folds, freePlaces, freeCount, firstFindings, gridFindings}
 use Rattle.findings.proofs.Runs.{first-long, second-long}
 use Rattle.findings.proofs.Writes.{first-keys-are, grid-keys-are}
 
@@ -80,7 +80,7 @@ module _ (sides : Sides) (shear shear-x : List ℤ) (p : RulingsParams) (bounds 
       }
 
 -- how many findings there are
-pub number-is : (s : Scan) (dpi : ℕ) (t : Tables) (r : Rulings) (places fs : List ℕ) (b : Boxes) {n : ℕ} → n ≡ freeCount (s .settings) places
+pub number-is : (s : Scan) (dpi : ℕ) (t : TableLists) (r : RulingLists) (places fs : List ℕ) (b : BoxLists) {n : ℕ} → n ≡ freeCount (s .settings) places
     → count (t .bounds) + n + length fs + length (b .grids) ≡ length (firstFindings s dpi t r places fs ++ gridFindings s b)
 number-is s dpi t r places fs b e =
     let x = first-long (s .sides) (s .shear) (s .shear-x) (s .settings) (t .bounds) (r .rects) places fs (b .rects) (b .set) (b .grids) in

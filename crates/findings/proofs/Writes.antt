@@ -18,9 +18,9 @@ use Rattle.evidence.specs.Kinds.{tableFinding, freeFinding, gridFinding, foldFi
 use Rattle.finding_lists.specs.Columns.{Columns}
 use Rattle.finding_lists.specs.Steps.{Stored, Wrote, RanksGiven, Roomy}
 use Rattle.finding_lists.proofs.Storing.{still-roomy}
-use Rattle.findings.specs.Keys.{keyOf, tableKey, foldKey, freeKeys, firstKeys, gridKeys}
-use Rattle.findings.specs.Made.{Scan, Rulings, Tables, Boxes, greatestOf, tableAt, freeOf, foldAt, gridOf, freeCount, tableFindings, freeFindings, foldFindings, gridFindings, firstFindings, everyFinite}
-use Rattle.findings.specs.Steps.{WriteRoom, AllFound}
+use Rattle.findings.specs.Keys.{keyOf}
+use Rattle.findings.specs.Steps.{tableKey, foldKey, freeKeys, firstKeys, gridKeys, WriteRoom, AllFound}
+use Rattle.findings.specs.Made.{Scan, RulingLists, TableLists, BoxLists, greatestOf, tableAt, freeOf, foldAt, gridOf, freeCount, tableFindings, freeFindings, foldFindings, gridFindings, firstFindings, everyFinite}
 use Rattle.findings.proofs.All.{all-in-order, stored-on, first-ranks, second-ranks}
 
 -- ---- ranks and room of each kind
@@ -50,7 +50,7 @@ module _ {p : RulingsParams} {folds numbers ka kb ra rb : List ℕ} {tables rule
 pub at-entries : {A : Type 0} (f : ℕ → A) (xs : List ℕ) → map (λ k. f (getD xs k 0)) (below (length xs)) ≡ map f xs
 at-entries f xs = sym (map-map f (λ k. getD xs k 0) (below (length xs))) ∙ ap (map f) (by-place xs 0)
 
-module _ (s : Scan) (t : Tables) (r : Rulings) (b : Boxes) (dpi : ℕ) where
+module _ (s : Scan) (t : TableLists) (r : RulingLists) (b : BoxLists) (dpi : ℕ) where
   table-keys : map keyOf (tableFindings s t) ≡ map (tableKey (s .sides) (s .shear) (s .shear-x) (t .bounds)) (below (count (t .bounds)))
   unfolding tableAt tableFinding
   table-keys = map-map keyOf (tableAt s t) (below (count (t .bounds)))
@@ -95,7 +95,7 @@ finite-below f (suc n) =
 
 -- ---- all of it
 
-module _ (s : Scan) (t : Tables) (r : Rulings) (b : Boxes) (dpi : ℕ) (places fs : List ℕ) {ra rb : List ℕ} {rules : ℕ} {l : Columns} where
+module _ (s : Scan) (t : TableLists) (r : RulingLists) (b : BoxLists) (dpi : ℕ) (places fs : List ℕ) {ra rb : List ℕ} {rules : ℕ} {l : Columns} where
   pub all-found : {l₁ l₂ l₃ l₄ : Columns} {b₁ b₂ b₃ b₄ : Bool} → rules ≡ freeCount (s .settings) places
       → WriteRoom (s .settings) fs (b .grids) (firstKeys (s .sides) (s .shear) (s .shear-x) (s .settings) (t .bounds) (r .rects) places fs)
       (gridKeys (s .sides) (s .shear) (s .shear-x) (b .rects) (b .set) (b .grids)) ra rb (count (t .bounds)) rules l

@@ -2,23 +2,16 @@
 use mathlib.Core.Path.{_≡_}
 use mathlib.Core.Logic.{_⊎_}
 use mathlib.Core.Bool.{false}
-use mathlib.Core.List.{List, _++_, map}
+use mathlib.Core.List.{List, map}
 use Prim.Native.Nat.{ℕ, _+_, _-_, _*_, _<_}
-use lib.IntN.{ℤ}
 use lib.ListN.{length, getD}
 use Rattle.lists.specs.Lists.{below}
 use Rattle.math.specs.Constants.{zero}
 use Rattle.order.specs.Order.{sortedIndexes}
-use Rattle.rects.specs.Rects.{rectAt, count}
-use Rattle.rects.specs.Around.{around}
-use Rattle.layout.specs.declared.sides.Sides.{Sides}
 use Rattle.layout.specs.declared.rect.PageRect.{PageRect}
-use Rattle.layout.specs.ToPage.{rectToPage}
-use Rattle.params.specs.declared.settings.RulingsParams.{RulingsParams}
 use Rattle.evidence.specs.declared.finding.Finding.{Finding}
 use Rattle.evidence.specs.declared.finding.Kind.the-variants.{Fold}
 use Rattle.evidence.specs.Finding.{kindNumber, noEvidence}
-use Rattle.findings.specs.Made.{freeCount}
 
 -- One finding stands before another by page y0, x0, kind number.
 abbrev pub Sooner : Finding → Finding → Type 0
@@ -33,35 +26,6 @@ pageKey r kind = (r .y0 * 8192 + r .x0) * 4 + (kind - 16)
 
 abbrev pub keyOf : Finding → ℕ
 keyOf f = pageKey (f .bbox) (kindNumber (f .kind))
-
--- The key of the finding of table k, by its rectangle.
-abbrev pub tableKey : Sides → List ℤ → List ℤ → List ℕ → ℕ → ℕ
-tableKey sides shear shear-x bounds k = pageKey (rectToPage sides shear shear-x (rectAt bounds k)) 16
-
--- The key of the finding of the free rulings at some places.
-abbrev pub freeKey : Sides → List ℤ → List ℤ → List ℕ → List ℕ → ℕ
-freeKey sides shear shear-x rects places = pageKey (rectToPage sides shear shear-x (around rects places)) 17
-
--- The key of their finding, if there is one.
-abbrev pub freeKeys : Sides → List ℤ → List ℤ → RulingsParams → List ℕ → List ℕ → List ℕ
-freeKeys sides shear shear-x p rects places = map (λ k. freeKey sides shear shear-x rects places) (below (freeCount p places))
-
--- The key of the finding of the fold that is the ruling at a place.
-abbrev pub foldKey : Sides → List ℤ → List ℤ → List ℕ → ℕ → ℕ
-foldKey sides shear shear-x rects place = pageKey (rectToPage sides shear shear-x (rectAt rects place)) 19
-
--- The key of the finding of the grid that is a set of boxes.
-abbrev pub gridKey : Sides → List ℤ → List ℤ → List ℕ → List ℕ → ℕ
-gridKey sides shear shear-x rects set = pageKey (rectToPage sides shear shear-x (around rects set)) 18
-
--- The keys of the first run: tables, free rules, folds.
-abbrev pub firstKeys : Sides → List ℤ → List ℤ → RulingsParams → List ℕ → List ℕ → List ℕ → List ℕ → List ℕ
-firstKeys sides shear shear-x p bounds rects places folds =
-    map (tableKey sides shear shear-x bounds) (below (count bounds)) ++ freeKeys sides shear shear-x p rects places ++ map (foldKey sides shear shear-x rects) folds
-
--- The keys of the grids' findings.
-abbrev pub gridKeys : Sides → List ℤ → List ℤ → List ℕ → (ℕ → List ℕ) → List ℕ → List ℕ
-gridKeys sides shear shear-x rects set numbers = map (λ n. gridKey sides shear shear-x rects (set n)) numbers
 
 -- Stands for what lies past the end of a list of findings.
 abbrev pub noFinding : Finding

@@ -29,13 +29,13 @@ pub record Scan : Type 0 where
   pub caps : FusionParams
 
 -- The rulings.
-pub record Rulings : Type 0 where
+pub record RulingLists : Type 0 where
   pub rects : List ℕ
   pub directions : List ℕ
   pub contrasts : List Float
 
 -- The tables.
-pub record Tables : Type 0 where
+pub record TableLists : Type 0 where
   pub bounds : List ℕ
   pub rows : List ℕ
   pub columns : List ℕ
@@ -43,7 +43,7 @@ pub record Tables : Type 0 where
   pub shares : List Float
 
 -- The boxes, their sets by number, and the numbers of the sets that are grids.
-pub record Boxes : Type 0 where
+pub record BoxLists : Type 0 where
   pub rects : List ℕ
   pub marks : List ℕ
   pub coverages : List Float
@@ -75,11 +75,11 @@ greatestOf (n ∷ ns) = max n (greatestOf ns)
 
 -- ---- tables
 
-unfoldable pub tableAt : Scan → Tables → ℕ → Finding
+unfoldable pub tableAt : Scan → TableLists → ℕ → Finding
 tableAt s t k =
     tableFinding (s .settings) (s .caps) (onPage s (rectAt (t .bounds) k)) (getD (t .rows) k 0) (getD (t .columns) k 0) (getD (t .rulings) k 0) (getD (t .shares) k nan)
 
-abbrev pub tableFindings : Scan → Tables → List Finding
+abbrev pub tableFindings : Scan → TableLists → List Finding
 tableFindings s t = map (tableAt s t) (below (count (t .bounds)))
 
 -- ---- free rules
@@ -89,16 +89,16 @@ abbrev pub freePlaces : List ℕ → List ℕ → List ℕ
 freePlaces printed free = map (λ i. getD printed i 0) free
 
 -- Of the rulings at some places: how many are horizontal, how many vertical, and the longest one's length.
-abbrev pub horizontals : Rulings → List ℕ → ℕ
+abbrev pub horizontals : RulingLists → List ℕ → ℕ
 horizontals r places = length (keep (lying (r .directions)) places)
 
-abbrev pub verticals : Rulings → List ℕ → ℕ
+abbrev pub verticals : RulingLists → List ℕ → ℕ
 verticals r places = length (keep (λ k. not (lying (r .directions) k)) places)
 
-abbrev pub longest : Rulings → List ℕ → ℕ
+abbrev pub longest : RulingLists → List ℕ → ℕ
 longest r places = greatestOf (map (lengthAt (r .rects) (r .directions)) places)
 
-unfoldable pub freeOf : Scan → Rulings → List ℕ → Finding
+unfoldable pub freeOf : Scan → RulingLists → List ℕ → Finding
 unfolding greatestOf
 freeOf s r places =
     freeFinding (s .settings) (s .caps) (onPage s (around (r .rects) places)) (length places) (horizontals r places) (verticals r places) (longest r places)
@@ -109,7 +109,7 @@ abbrev pub freeCount : RulingsParams → List ℕ → ℕ
 freeCount p places = one (leb (p .«min_free_rules») (length places))
 
 -- The finding of the free rules, if there is one.
-abbrev pub freeFindings : Scan → Rulings → List ℕ → List Finding
+abbrev pub freeFindings : Scan → RulingLists → List ℕ → List Finding
 freeFindings s r places = map (λ k. freeOf s r places) (below (freeCount (s .settings) places))
 
 -- ---- folds
@@ -121,11 +121,11 @@ foldInches dpi rects directions k = inchesOf (lengthAt rects directions k) dpi
 abbrev pub folds : RulingsParams → ℕ → List ℕ → List ℕ → List ℕ → List ℕ
 folds p dpi rects directions faint = keep (λ k. isFold p (foldInches dpi rects directions k)) faint
 
-unfoldable pub foldAt : Scan → ℕ → Rulings → ℕ → Finding
+unfoldable pub foldAt : Scan → ℕ → RulingLists → ℕ → Finding
 foldAt s dpi r k =
     foldFinding (s .settings) (s .caps) (onPage s (rectAt (r .rects) k)) (not (lying (r .directions) k)) (foldInches dpi (r .rects) (r .directions) k) (getD (r .contrasts) k nan)
 
-abbrev pub foldFindings : Scan → ℕ → Rulings → List ℕ → List Finding
+abbrev pub foldFindings : Scan → ℕ → RulingLists → List ℕ → List Finding
 foldFindings s dpi r places = map (foldAt s dpi r) places
 
 -- ---- grids
@@ -139,17 +139,17 @@ unfoldable pub gridOf : Scan → List ℕ → List ℕ → List Float → List �
 gridOf s rects marks coverages set =
     gridFinding (s .settings) (s .caps) (onPage s (around rects set)) (length set) (ticked marks set) (meanAt coverages set)
 
-abbrev pub gridFindings : Scan → Boxes → List Finding
+abbrev pub gridFindings : Scan → BoxLists → List Finding
 gridFindings s b = map (λ n. gridOf s (b .rects) (b .marks) (b .coverages) (b .set n)) (b .grids)
 
 -- ---- all
 
 -- The findings of tables, of the free rules at some places, and of the folds at some places.
-abbrev pub firstFindings : Scan → ℕ → Tables → Rulings → List ℕ → List ℕ → List Finding
+abbrev pub firstFindings : Scan → ℕ → TableLists → RulingLists → List ℕ → List ℕ → List Finding
 firstFindings s dpi t r free fs = tableFindings s t ++ freeFindings s r free ++ foldFindings s dpi r fs
 
 -- The findings in the order in which they are made: tables, free rules, folds, grids.
-abbrev pub made : Scan → ℕ → Rulings → List ℕ → List ℕ → Tables → List ℕ → Boxes → List Finding
+abbrev pub made : Scan → ℕ → RulingLists → List ℕ → List ℕ → TableLists → List ℕ → BoxLists → List Finding
 made s dpi r printed faint t free b =
     firstFindings s dpi t r (freePlaces printed free) (folds (s .settings) dpi (r .rects) (r .directions) faint) ++ gridFindings s b
 

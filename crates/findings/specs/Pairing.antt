@@ -6,7 +6,7 @@ use lib.ListN.{length, getD}
 use Rattle.rects.specs.Rects.{count}
 use Rattle.evidence.specs.declared.finding.Finding.{Finding}
 use Rattle.evidence.specs.Finding.{kindNumber}
-use Rattle.findings.specs.Made.{Scan, Rulings, Tables, Boxes, tableAt, freePlaces, freeCount, freeOf, folds, foldAt, gridOf, made}
+use Rattle.findings.specs.Made.{Scan, RulingLists, TableLists, BoxLists, tableAt, freePlaces, freeCount, freeOf, folds, foldAt, gridOf, made}
 use Rattle.findings.specs.Keys.{inOrder, Stands, Ordered}
 
 -- Item k of n makes the finding f k, which stands at place `place k`; two items have two places, and every finding of this kind has its item.
@@ -18,7 +18,7 @@ pub record Paired (kind n : ℕ) (f : ℕ → Finding) (fs : List Finding) (plac
 
 -- The findings of a page: each table, each fold and each grid has exactly one, the free rules have one if there are enough, no other finding stands,
 -- and they stand in document 01's order.
-pub record FindingsPaired (s : Scan) (dpi : ℕ) (r : Rulings) (printed faint : List ℕ) (t : Tables) (free : List ℕ) (b : Boxes) : Type 0 where
+pub record FindingsPaired (s : Scan) (dpi : ℕ) (r : RulingLists) (printed faint : List ℕ) (t : TableLists) (free : List ℕ) (b : BoxLists) : Type 0 where
   pub tables : (place : ℕ → ℕ) × Paired 16 (count (t .bounds)) (tableAt s t) (inOrder (made s dpi r printed faint t free b)) place
   pub free-rules : (place : ℕ → ℕ)
       × Paired 17 (freeCount (s .settings) (freePlaces printed free)) (λ k. freeOf s r (freePlaces printed free)) (inOrder (made s dpi r printed faint t free b)) place

@@ -1,27 +1,59 @@
 -- What the functions of `findings` ask and leave; none of it is needed to read what a page's findings are.
 use mathlib.Core.Path.{_≡_}
 use mathlib.Core.Bool.{Bool}
-use mathlib.Core.List.{List, map}
-use Prim.Native.Nat.{ℕ, _*_, _+_, _^_, _≤_, _<_}
+use mathlib.Core.List.{List, _++_, map}
+use Prim.Native.Nat.{ℕ, _+_, _-_, _*_, _<_, _^_, _≤_}
 use lib.IntN.{ℤ}
-use lib.Ieee.{Float}
 use lib.ListN.{length, getD}
-use lib.Seq.{sets}
-use Rattle.lists.specs.Lists.{written}
-use Rattle.math.specs.Sum.{PlacesIn}
-use Rattle.ranks.specs.Ranks.{Ranked}
-use Rattle.rects.specs.declared.Rect.{Rect}
-use Rattle.rects.specs.Rects.{count, rectAt, Inside, AllInside}
+use Rattle.lists.specs.Lists.{below, written}
+use Rattle.rects.specs.Rects.{rectAt, count}
+use Rattle.rects.specs.Around.{around}
 use Rattle.layout.specs.declared.sides.Sides.{Sides}
-use Rattle.layout.specs.Tables.{Sheared}
+use Rattle.layout.specs.ToPage.{rectToPage}
 use Rattle.params.specs.declared.settings.RulingsParams.{RulingsParams}
 use Rattle.evidence.specs.declared.finding.Finding.{Finding}
 use Rattle.evidence.specs.Finding.{rowOf}
+use Rattle.findings.specs.Made.{freeCount, Scan, RulingLists, TableLists, BoxLists, freePlaces, folds, made, everyFinite}
+use Rattle.findings.specs.Keys.{pageKey, inOrder}
+use lib.Ieee.{Float}
+use lib.Seq.{sets}
+use Rattle.math.specs.Steps.{PlacesIn}
+use Rattle.ranks.specs.Ranks.{Ranked}
+use Rattle.rects.specs.declared.Rect.{Rect}
+use Rattle.rects.specs.Steps.{Inside, AllInside}
+use Rattle.layout.specs.Steps.{Sheared}
 use Rattle.finding_lists.specs.Columns.{Columns, AllWritten}
 use Rattle.finding_lists.specs.Steps.{Roomy}
-use Rattle.findings.specs.Made.{Scan, Rulings, Tables, Boxes, freePlaces, freeCount, folds, made, everyFinite}
-use Rattle.findings.specs.Keys.{firstKeys, gridKeys, inOrder}
 use Rattle.findings.specs.Pairing.{FindingsPaired}
+
+-- The key of the finding of table k, by its rectangle.
+abbrev pub tableKey : Sides → List ℤ → List ℤ → List ℕ → ℕ → ℕ
+tableKey sides shear shear-x bounds k = pageKey (rectToPage sides shear shear-x (rectAt bounds k)) 16
+
+-- The key of the finding of the free rulings at some places.
+abbrev pub freeKey : Sides → List ℤ → List ℤ → List ℕ → List ℕ → ℕ
+freeKey sides shear shear-x rects places = pageKey (rectToPage sides shear shear-x (around rects places)) 17
+
+-- The key of their finding, if there is one.
+abbrev pub freeKeys : Sides → List ℤ → List ℤ → RulingsParams → List ℕ → List ℕ → List ℕ
+freeKeys sides shear shear-x p rects places = map (λ k. freeKey sides shear shear-x rects places) (below (freeCount p places))
+
+-- The key of the finding of the fold that is the ruling at a place.
+abbrev pub foldKey : Sides → List ℤ → List ℤ → List ℕ → ℕ → ℕ
+foldKey sides shear shear-x rects place = pageKey (rectToPage sides shear shear-x (rectAt rects place)) 19
+
+-- The key of the finding of the grid that is a set of boxes.
+abbrev pub gridKey : Sides → List ℤ → List ℤ → List ℕ → List ℕ → ℕ
+gridKey sides shear shear-x rects set = pageKey (rectToPage sides shear shear-x (around rects set)) 18
+
+-- The keys of the first run: tables, free rules, folds.
+abbrev pub firstKeys : Sides → List ℤ → List ℤ → RulingsParams → List ℕ → List ℕ → List ℕ → List ℕ → List ℕ
+firstKeys sides shear shear-x p bounds rects places folds =
+    map (tableKey sides shear shear-x bounds) (below (count bounds)) ++ freeKeys sides shear shear-x p rects places ++ map (foldKey sides shear shear-x rects) folds
+
+-- The keys of the grids' findings.
+abbrev pub gridKeys : Sides → List ℤ → List ℤ → List ℕ → (ℕ → List ℕ) → List ℕ → List ℕ
+gridKeys sides shear shear-x rects set numbers = map (λ n. gridKey sides shear shear-x rects (set n)) numbers
 
 -- The way back to the page is known: the tables pass their questions, and a picture that has a rectangle has a page.
 pub record Mapping (sides : Sides) (shear shear-x : List ℤ) : Type 0 where
@@ -131,7 +163,7 @@ pub record FindRoom (p : RulingsParams) (dpi : ℕ) (rects directions printed fa
   pub both : ArrangeRoom p bounds (freePlaces printed free) (folds p dpi rects directions faint) numbers keys grid-keys order grid-order ranks grid-ranks l
 
 -- What the core leaves of a page: its findings in order, how many there are, and whether each is finite; each is paired with what it is made from.
-pub record PageFound (s : Scan) (dpi : ℕ) (r : Rulings) (printed faint : List ℕ) (t : Tables) (free : List ℕ) (b : Boxes) (l l′ : Columns) (n : ℕ) (finite : Bool) : Type 0 where
+pub record PageFound (s : Scan) (dpi : ℕ) (r : RulingLists) (printed faint : List ℕ) (t : TableLists) (free : List ℕ) (b : BoxLists) (l l′ : Columns) (n : ℕ) (finite : Bool) : Type 0 where
   pub found : AllFound (made s dpi r printed faint t free b) l l′ finite
   pub number : n ≡ length (made s dpi r printed faint t free b)
   pub paired : FindingsPaired s dpi r printed faint t free b

@@ -1,7 +1,8 @@
 // The first run of findings: tables, free rules and folds.
 ghost use Prim.Native.Nat.{_+_, _≤_};
 ghost use lib.ListN.{length};
-ghost use Rattle.rects.specs.Rects.{count, AllInside};
+ghost use Rattle.rects.specs.Rects.{count};
+ghost use Rattle.rects.specs.Steps.{AllInside};
 ghost use Rattle.findings.specs.Made.{freeCount};
 ghost use Rattle.findings.specs.Steps.{Mapping, RectsGiven, FirstKeyed};
 use crate::fold_findings;

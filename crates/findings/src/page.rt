@@ -1,7 +1,7 @@
 // A rectangle's place on the page, and its sort key.
 ghost use mathlib.Core.Path.{_≡_};
 ghost use Prim.Native.Nat.{_<_, _≤_};
-ghost use Rattle.rects.specs.Rects.{Inside};
+ghost use Rattle.rects.specs.Steps.{Inside};
 ghost use Rattle.layout.specs.ToPage.{rectToPage};
 ghost use Rattle.findings.specs.Keys.{pageKey};
 ghost use Rattle.findings.specs.Steps.{Mapping};

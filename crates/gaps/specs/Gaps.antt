@@ -6,7 +6,8 @@ use Prim.Native.Nat.{ℕ, _-_, min, max}
 use lib.Dec.{leb}
 use lib.ListN.{length, getD}
 use Rattle.sets.specs.Closed.{Below, Listed}
-use Rattle.sets.specs.Listing.{closedSets, Answered}
+use Rattle.sets.specs.Listing.{closedSets}
+use Rattle.sets.specs.Steps.{Answered}
 
 -- Two numbers differ by at most the gap.
 abbrev pub near : ℕ → ℕ → ℕ → Bool

@@ -3,8 +3,7 @@ ghost use mathlib.Core.Path.{_≡_};
 ghost use Prim.Native.Nat.{_+_, _<_};
 ghost use lib.ListN.{length};
 ghost use Rattle.sets.specs.Closed.{Below};
-ghost use Rattle.sets.specs.Joins.{Joins, Seen};
-ghost use Rattle.sets.specs.Parents.{Room};
+ghost use Rattle.sets.specs.Steps.{Joins, Seen, Room};
 ghost use Rattle.gaps.specs.Gaps.{near, Touch, GapSets};
 ghost use Rattle.lists.specs.Lists.{roomFor};
 

@@ -9,7 +9,7 @@ use borrow.Author.Tests.{ne-eqb}
 use Rattle.questions.specs.Questions.{firstMissed}
 use Rattle.params.specs.declared.settings.RulingsParams.{RulingsParams}
 use Rattle.params.specs.Limits.{alignLimit}
-use Rattle.params.specs.Settled.{Settled}
+use Rattle.params.specs.Steps.{SettingsPassed}
 use Rattle.params.proofs.Limits.{limits}
 use Rattle.grids.specs.Call as Call
 use Rattle.grids.specs.Call.{Given, Lent, hasRoom, givenQuestions, questions, refusal, Grids}
@@ -17,7 +17,7 @@ use Rattle.grids.specs.Steps.{Filled}
 use Rattle.grids.proofs.Demand.{demand3}
 
 -- passed questions bound the limit
-pub limit-small : (p : RulingsParams) (xheight : Float) {limit : ℕ} → Settled p xheight → limit ≡ alignLimit p xheight → limit < 2 ^ 40
+pub limit-small : (p : RulingsParams) (xheight : Float) {limit : ℕ} → SettingsPassed p xheight → limit ≡ alignLimit p xheight → limit < 2 ^ 40
 limit-small p xheight S e = omega (arith, limits p xheight S .align .at-most)
 
 -- the room that was counted is the room that is asked for
@@ -37,7 +37,7 @@ module _ (g : Given) (l : Lent) {q : ℕ} (e : q ≡ firstMissed (questions g l)
         demand3 = λ z. absurd (n z);
       }
 
-  pub accepted : (l′ : Lent) {limit ss gs : ℕ} → q ≡ 0 → Settled (g .settings) (g .xheight) → limit ≡ alignLimit (g .settings) (g .xheight)
+  pub accepted : (l′ : Lent) {limit ss gs : ℕ} → q ≡ 0 → SettingsPassed (g .settings) (g .xheight) → limit ≡ alignLimit (g .settings) (g .xheight)
       → Filled (g .rects) limit (g .settings .«grid_min_boxes») l l′ ss gs → Grids g l l′ (record { number = 0; sets = ss; grids = gs })
   accepted l′ z S el F₀ =
       let F = rw el at F₀ in

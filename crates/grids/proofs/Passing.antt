@@ -14,7 +14,7 @@ use Rattle.rects.specs.Rects.{count, countFits, allInside}
 use Rattle.rects.proofs.Questions.{count-says, all-inside-says}
 use Rattle.grids.specs.Call.{Given, Lent, hasRoom, givenQuestions, questions}
 use Rattle.grids.specs.Steps.{PassedBoxes, Roomy}
-use Rattle.params.specs.Settled.{Settled}
+use Rattle.params.specs.Steps.{SettingsPassed}
 
 -- two numbers and three tests, in the order of the questions
 abbrev pub nested : ℕ → Bool → Bool → ℕ → Bool → ℕ
@@ -86,7 +86,7 @@ room-says g l h =
 -- what a guard that gave 0 says
 pub record Passed (g : Given) (l : Lent) : Type 0 where
   pub boxes : PassedBoxes (g .rects)
-  pub settled : Settled (g .settings) (g .xheight)
+  pub settled : SettingsPassed (g .settings) (g .xheight)
   pub roomy : Roomy (count (g .rects)) l
 
 pub passed : (g : Given) (l : Lent) → firstMissed (questions g l) ≡ 0 → Passed g l

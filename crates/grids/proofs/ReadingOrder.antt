@@ -10,10 +10,11 @@ use lib.Seq.{sets, take-at}
 use Rattle.lists.specs.Lists.{In, written}
 use Rattle.lists.proofs.Keep.{in-at, at-in, getD-map}
 use Rattle.lists.proofs.Written.{written-at}
-use Rattle.order.specs.Order.{keyAt, Before, Once, Sorted, sortedIndexes}
+use Rattle.order.specs.Order.{keyAt, Before, StandsOnce, Sorted, sortedIndexes}
 use Rattle.order.proofs.Computed.{sorted-length, sorted-by}
 use Rattle.rects.specs.declared.Rect.{Rect}
-use Rattle.rects.specs.Rects.{rectAt, Inside}
+use Rattle.rects.specs.Rects.{rectAt}
+use Rattle.rects.specs.Steps.{Inside}
 use Rattle.sets.specs.Closed.{Ascending}
 use Rattle.sets.proofs.Ascending.{ascending-at, one-place}
 use Rattle.grids.specs.Reading.{ReadBefore, InReadingOrder, readingKey, readingKeys, readingOrder}
@@ -76,7 +77,7 @@ module _ (rects set : List ℕ) where
         let same = reading-tells (inside (getD set a 0) (at-in set a la)) (inside (getD set b 0) (at-in set b lb)) (sym (key-is a la) ∙ h .0 ∙ key-is b lb) in
         inr (same .0, inr (same .1, ascending-at up a b (h .1) lb))
 
-    once : (i : ℕ) → In set i → Once (length set) (readingOrder rects set) i
+    once : (i : ℕ) → In set i → StandsOnce (length set) (readingOrder rects set) i
     once i m =
         let w = in-at set i m in
         let o = sorted .once (w .0) (w .1) in (

@@ -12,8 +12,7 @@ use lib.Dec.{eqb}
 use lib.ListN.{getD}
 use borrow.Author.Tests.{eqb-true}
 use Rattle.sets.specs.Closed.{Below, Chain}
-use Rattle.sets.specs.Joins.{Joins, Seen}
-use Rattle.sets.specs.Parents.{Parents, root, Joined}
+use Rattle.sets.specs.Steps.{Joins, Seen, Parents, root, Joined}
 use Rattle.sets.proofs.Chains.{chain-step}
 use Rattle.sets.proofs.Grown.{Holds}
 use Rattle.sets.proofs.Joins.{joins-exchange, joins-kept}

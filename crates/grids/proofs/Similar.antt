@@ -17,7 +17,8 @@ use Rattle.math.proofs.Rounded.{round-neg}
 use Rattle.math.proofs.Sums.{whole-value}
 use Rattle.math.proofs.Value.{sub-value}
 use Rattle.rects.specs.declared.Rect.{Rect}
-use Rattle.rects.specs.Rects.{widthOf, Inside}
+use Rattle.rects.specs.Rects.{widthOf}
+use Rattle.rects.specs.Steps.{Inside}
 use Rattle.grids.specs.Boxes.{similar, distance, centreX, centreY, aligned, touching}
 
 -- ---- the difference

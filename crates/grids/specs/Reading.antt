@@ -5,7 +5,7 @@ use mathlib.Core.List.{List, map}
 use Prim.Native.Nat.{ℕ, _+_, _*_, _<_}
 use lib.ListN.{length, getD}
 use Rattle.lists.specs.Lists.{In}
-use Rattle.order.specs.Order.{Once, sortedIndexes}
+use Rattle.order.specs.Order.{StandsOnce, sortedIndexes}
 use Rattle.rects.specs.declared.Rect.{Rect}
 use Rattle.rects.specs.Rects.{rectAt}
 
@@ -20,7 +20,7 @@ ReadBefore rects i j =
 pub record InReadingOrder (rects set order : List ℕ) : Type 0 where
   pub full : length order ≡ length set
   pub members : (k : ℕ) → k < length order → In set (getD order k 0)
-  pub once : (i : ℕ) → In set i → Once (length order) order i
+  pub once : (i : ℕ) → In set i → StandsOnce (length order) order i
   pub ordered : (k l : ℕ) → k < l → l < length order → ReadBefore rects (getD order k 0) (getD order l 0)
 
 -- y0 and x0 as one number. Of coordinates below 8,192 it orders as the two do one after the other (`reading-orders`).

@@ -7,7 +7,8 @@ use lib.Dec.{eqb}
 use lib.ListN.{length, getD}
 use Rattle.lists.specs.Lists.{In, below, concat, written}
 use Rattle.sets.specs.Listing.{endsFrom, ReadAs}
-use Rattle.rects.specs.Rects.{count, rectAt, Inside}
+use Rattle.rects.specs.Rects.{count, rectAt}
+use Rattle.rects.specs.Steps.{Inside}
 use Rattle.grids.specs.Reading.{readingOrder}
 use Rattle.grids.specs.Grids.{boxSets, gridNumbers, grids, readings}
 use Rattle.grids.specs.Call.{Lent}

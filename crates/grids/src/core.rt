@@ -3,7 +3,7 @@ ghost use mathlib.Core.Path.{_≡_};
 ghost use Prim.Native.Nat.{_<_, _^_};
 ghost use Rattle.rects.specs.Rects.{count};
 ghost use Rattle.params.specs.Limits.{alignLimit};
-ghost use Rattle.params.specs.Settled.{Settled};
+ghost use Rattle.params.specs.Steps.{SettingsPassed};
 ghost use Rattle.grids.specs.Steps.{PassedBoxes, Roomy, Filled};
 use crate::reading;
 use crate::touch;
@@ -11,7 +11,7 @@ use params::settings::RulingsParams;
 
 // round(2 * grid_align_xh * xheight), for settings and an x-height that passed their questions.
 pub fn limit(p: RulingsParams, xheight: f64) -> u64
-    requires { ⌜ Settled p xheight ⌝ }
+    requires { ⌜ SettingsPassed p xheight ⌝ }
     ensures { λ r. ⌜ r ≡ alignLimit p xheight ⌝ }
 {
     params::pixels::limit(2.0 * p.grid_align_xh, xheight)

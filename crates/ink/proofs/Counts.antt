@@ -15,7 +15,8 @@ use Rattle.lists.proofs.Keep.{keep-append, keep-below-same, length-below, true-
 use Rattle.lists.proofs.Sizes.{keep-size-le, keep-none}
 use Rattle.rects.specs.Rects.{widthOf, heightOf}
 use Rattle.rects.specs.declared.Rect.{Rect}
-use Rattle.ink.specs.Ink.{Ink, inkAt, many, rowInk, inkInRows, linesOf, Readable}
+use Rattle.ink.specs.Ink.{Ink, inkAt, many, rowInk, inkInRows}
+use Rattle.ink.specs.Steps.{linesOf, Readable}
 
 pub many-more : (q : ℕ → Bool) (n : ℕ) → many q (suc n) ≡ many q n + cond (q n) 1 0
 many-more q n = ap length (keep-append q (below n) (n ∷ [])) ∙ length-append (keep q (below n)) (keep q (n ∷ [])) ∙ ap (λ (k : ℕ). many q n + k) (go (q n))

@@ -6,7 +6,8 @@ use Prim.Native.Nat.{ℕ, zero, suc, _+_, _-_, _≤_, _<_, zero-le}
 use native.Mathlib.Nat.{not-suc-le-zero, le-of-suc-le-suc, eq-or-lt-of-le}
 use native.Mathlib.Numerals.{add-one}
 use native.Mathlib.Omega.{arith}
-use Rattle.ink.specs.Places.{firstFrom, firstPlace, lastEnd, First, LastEnd}
+use Rattle.ink.specs.Places.{firstFrom, firstPlace, lastEnd}
+use Rattle.ink.specs.Steps.{First, LastEnd}
 
 module _ (q : ℕ → Bool) where
   pub first-here : (i k : ℕ) → q i ≡ true → firstFrom q i (suc k) ≡ i

@@ -6,7 +6,8 @@ use Prim.Native.Nat.{ℕ, zero, suc, _+_, _-_, _≤_, _<_, max, zero-le}
 use native.Mathlib.Nat.{not-suc-le-zero, le-of-suc-le-suc, eq-or-lt-of-le}
 use native.Mathlib.Numerals.{add-one}
 use native.Mathlib.Omega.{arith}
-use Rattle.ink.specs.Places.{Run, Longest, runBefore, longestRun}
+use Rattle.ink.specs.Places.{runBefore, longestRun}
+use Rattle.ink.specs.Steps.{Run, Longest}
 
 module _ (q : ℕ → Bool) where
   pub run-none : runBefore q 0 ≡ 0

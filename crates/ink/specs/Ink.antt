@@ -1,7 +1,7 @@
 -- Ink, a test of a place, and how much of it lies in a rectangle. Every definition but `inkAt` and `Readable` is over the test alone.
-use mathlib.Core.Bool.{Bool, cond, not}
+use mathlib.Core.Bool.{Bool, not}
 use mathlib.Core.List.{List}
-use Prim.Native.Nat.{ℕ, zero, suc, _+_, _*_, _≤_, _<_}
+use Prim.Native.Nat.{ℕ, zero, suc, _+_, _*_}
 use lib.Dec.{eqb}
 use lib.ListN.{length, getD}
 use Rattle.lists.specs.Lists.{below, keep}
@@ -36,19 +36,3 @@ inkInRows ink r (suc n) = inkInRows ink r n + rowInk ink r n
 -- The ink in a rectangle.
 abbrev pub inkIn : Ink → Rect → ℕ
 inkIn ink r = inkInRows ink r (heightOf r)
-
--- A line of a rectangle is a row or a column of it: how many there are, how long one is, and its ink.
-abbrev pub linesOf : Rect → Bool → ℕ
-linesOf r rows = cond rows (heightOf r) (widthOf r)
-
-abbrev pub lineInk : Ink → Rect → Bool → ℕ → ℕ
-lineInk ink r rows k = cond rows (rowInk ink r k) (columnInk ink r k)
-
--- An ordered rectangle on a mask of w columns.
-pub record Readable (mask : List ℕ) (w : ℕ) (r : Rect) : Type 0 where
-  pub narrow : w ≤ 8192
-  pub low : r .y1 < 8192
-  pub wide : r .x0 ≤ r .x1
-  pub high : r .y0 ≤ r .y1
-  pub right : r .x1 < w
-  pub bottom : suc (r .y1) * w ≤ length mask

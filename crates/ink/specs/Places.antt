@@ -1,7 +1,6 @@
 -- The first and the last place that passes a test, and the longest unbroken run of such places.
-use mathlib.Core.Path.{_≡_}
-use mathlib.Core.Bool.{Bool, true, false, cond, not}
-use Prim.Native.Nat.{ℕ, zero, suc, _+_, _≤_, _<_, max}
+use mathlib.Core.Bool.{Bool, cond, not}
+use Prim.Native.Nat.{ℕ, zero, suc, _+_, max}
 use lib.Ieee.{Float, le}
 use Rattle.math.specs.Sum.{whole}
 
@@ -22,28 +21,6 @@ firstPlace q n = firstFrom q 0 n
 unfoldable pub lastEnd : (ℕ → Bool) → ℕ → ℕ
 lastEnd q zero = 0
 lastEnd q (suc n) = cond (q n) (suc n) (lastEnd q n)
-
--- What the two are.
-pub record First (q : ℕ → Bool) (n k : ℕ) : Type 0 where
-  pub within : k ≤ n
-  pub before : (i : ℕ) → i < k → q i ≡ false
-  pub passes : k < n → q k ≡ true
-
-pub record LastEnd (q : ℕ → Bool) (n k : ℕ) : Type 0 where
-  pub within : k ≤ n
-  pub past : (i : ℕ) → k ≤ i → i < n → q i ≡ false
-  pub passes : (i : ℕ) → suc i ≡ k → q i ≡ true
-
--- An unbroken run: k places in a row, all below n, that pass.
-pub record Run (q : ℕ → Bool) (n k : ℕ) : Type 0 where
-  pub start : ℕ
-  pub within : start + k ≤ n
-  pub passes : (i : ℕ) → i < k → q (start + i) ≡ true
-
--- The length of the longest unbroken run below n: there is one of that length, and none is longer.
-pub record Longest (q : ℕ → Bool) (n k : ℕ) : Type 0 where
-  pub run : Run q n k
-  pub most : (l : ℕ) → Run q n l → l ≤ k
 
 -- The length of the run that ends at place n, without it.
 unfoldable pub runBefore : (ℕ → Bool) → ℕ → ℕ

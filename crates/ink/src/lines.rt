@@ -4,7 +4,8 @@ ghost use mathlib.Core.Bool.{cond};
 ghost use Prim.Native.Nat.{suc, _+_, _^_, _≤_, _<_};
 ghost use lib.Dec.{ltb};
 ghost use lib.Ieee.{Float};
-ghost use Rattle.ink.specs.Ink.{inkAt, linesOf, lineInk, Readable};
+ghost use Rattle.ink.specs.Ink.{inkAt};
+ghost use Rattle.ink.specs.Steps.{linesOf, lineInk, Readable};
 ghost use Rattle.ink.specs.Places.{over, firstPlace, lastEnd, longestRun};
 use rects::Rect;
 

@@ -5,7 +5,8 @@ ghost use Prim.Native.Nat.{_+_, _*_, _≤_, _<_};
 ghost use lib.Dec.{eqb, ltb};
 ghost use lib.ListN.{length, getD};
 ghost use Rattle.rects.specs.Rects.{widthOf, heightOf};
-ghost use Rattle.ink.specs.Ink.{inkAt, many, rowInk, columnInk, inkIn, Readable};
+ghost use Rattle.ink.specs.Ink.{inkAt, many, rowInk, columnInk, inkIn};
+ghost use Rattle.ink.specs.Steps.{Readable};
 use rects::Rect;
 
 // Is there ink in column x of row y?

@@ -1,5 +1,4 @@
 -- A list that is written from the front, place by place, until it is another list.
--- Assumes nothing.
 use mathlib.Core.Path.{_≡_, refl, _∙_}
 use mathlib.Core.Logic.{⊎-elim}
 use mathlib.Core.List.{List}

@@ -1,5 +1,4 @@
 -- What a "yes" to each question means as plain facts, and that the facts give the "yes".
--- Assumes nothing.
 use mathlib.Core.Path.{_≡_, refl, sym}
 use mathlib.Core.Bool.{true, false, _&&_, true≢false}
 use mathlib.Core.List.{List}
@@ -12,7 +11,8 @@ use lib.Signed.{nonNeg}
 use borrow.Author.Tests.{leb-true, ltb-true, eqb-true, le-leb, lt-ltb, eq-eqb}
 use Rattle.layout.specs.declared.sides.Sides.{Sides}
 use Rattle.layout.specs.Sides.{sideFits, levelledSidesFit, sidesFit, rasterFits}
-use Rattle.layout.specs.Tables.{entry, entryFits, entriesFit, tablesLong, tablesFit, Table, Sheared}
+use Rattle.layout.specs.Tables.{entry, entryFits, entriesFit, tablesLong, tablesFit}
+use Rattle.layout.specs.Steps.{Table, Sheared}
 use Rattle.lists.proofs.Every.{and-both, every-at, every-of}
 use Rattle.layout.proofs.Every.{and-parts}
 use Rattle.layout.proofs.Entries.{whole-not-below}

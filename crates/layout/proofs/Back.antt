@@ -1,5 +1,4 @@
 -- The way back to the page: its answers put together from their parts.
--- Assumes nothing.
 use mathlib.Core.Path.{_≡_, ap₂}
 use mathlib.Core.List.{List}
 use Prim.Native.Nat.{ℕ}

@@ -1,5 +1,4 @@
 -- Entries of a shear table: how the code reads them, and what question 4 says of them.
--- Assumes nothing.
 use mathlib.Core.Path.{_≡_, ap, _∙_}
 use mathlib.Core.Bool.{true, false, _&&_}
 use mathlib.Core.List.{List}
@@ -14,7 +13,8 @@ use lib.Signed.{nonNeg}
 use mir.Syntax.{w32}
 use mir.Val.{SFits, ofZ, toZ}
 use mir.ValLaws.{toZ-ofZ}
-use Rattle.layout.specs.Tables.{entry, Run}
+use Rattle.layout.specs.Tables.{entry}
+use Rattle.layout.specs.Steps.{Run}
 
 pub whole-not-below : (z : ℤ) (n : ℕ) → z ≡ pos n → nonNeg z ≡ true
 whole-not-below z n e = rw e

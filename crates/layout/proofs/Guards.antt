@@ -1,5 +1,4 @@
 -- What a guard's number gives: the core's facts where it is 0, and the refusal where it is not.
--- Assumes nothing.
 use mathlib.Core.Path.{_≡_, refl, sym, ap, subst, _∙_}
 use mathlib.Core.Bool.{Bool, cond}
 use mathlib.Core.List.{List}
@@ -13,9 +12,9 @@ use Rattle.questions.proofs.FirstMissed.{all-yes}
 use Rattle.layout.specs.declared.sides.Sides.{Sides}
 use Rattle.rects.specs.declared.Rect.{Rect}
 use Rattle.layout.specs.Sides.{rasterFits}
-use Rattle.layout.specs.Tables.{Sheared, tablesLong}
+use Rattle.layout.specs.Tables.{tablesLong}
+use Rattle.layout.specs.Steps.{Sheared, Ready}
 use Rattle.layout.specs.Level.{levelled, Levelling}
-use Rattle.layout.specs.Steps.{Ready}
 use Rattle.layout.specs.Call.{levelQuestions, mapQuestions, LevelGray}
 use Rattle.layout.proofs.Every.{and-parts}
 use Rattle.layout.proofs.Answers.{SidesAre, sides-yes, sheared-yes, raster-yes}

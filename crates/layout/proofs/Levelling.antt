@@ -1,6 +1,5 @@
 -- Levelling is what document 01 says: a place that a page pixel reaches holds that pixel, and no two pixels reach one place; every other holds 255; and `to_page` leads back.
 -- Every place is reached or not, so the sentence says what each place holds, and no other raster meets it.
--- Assumes nothing.
 use mathlib.Core.Path.{_≡_, refl, sym, ap, ap₂, _∙_}
 use mathlib.Core.Logic.{_⊎_, inl, inr, ⊎-elim}
 use mathlib.Core.Bool.{Bool, cond}
@@ -12,7 +11,8 @@ use lib.ListN.{getD}
 use borrow.Author.Tests.{le-ltb}
 use Rattle.layout.specs.declared.sides.Sides.{Sides}
 use Rattle.layout.specs.declared.page.PagePlace.{PagePlace}
-use Rattle.layout.specs.Tables.{entry, Sheared}
+use Rattle.layout.specs.Tables.{entry}
+use Rattle.layout.specs.Steps.{Sheared}
 use Rattle.layout.specs.Level.{levelRow, levelColumn, placeShows, levelled, Levelling}
 use Rattle.layout.specs.ToPage.{nearest, toPage}
 use Rattle.layout.proofs.Places.{le-or-lt, raster-length, raster-at, raster-is}

@@ -1,5 +1,4 @@
 -- A run of page columns that share a shear, in one levelled row: white off the page, and a run of a page row on it.
--- Assumes nothing.
 use mathlib.Core.Path.{_≡_, sym, ap, _∙_}
 use mathlib.Core.Logic.{_⊎_}
 use mathlib.Core.List.{List}

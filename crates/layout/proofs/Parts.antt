@@ -1,5 +1,4 @@
 -- A part of a list that was lent and written: what stands inside it, and outside.
--- Assumes nothing.
 use mathlib.Core.Path.{_≡_, ap, _∙_}
 use mathlib.Core.List.{List, _++_}
 use Prim.Native.Nat.{ℕ, _+_, _-_, _≤_, _<_}

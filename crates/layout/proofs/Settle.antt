@@ -1,5 +1,4 @@
 -- Steps of levelling follow each other: areas grow, and what was right stays right.
--- Assumes nothing.
 use mathlib.Core.Path.{_≡_, refl, sym, ap, _∙_, subst}
 use mathlib.Core.Logic.{_⊎_, inl, inr, ⊎-elim}
 use mathlib.Core.List.{List}
@@ -10,19 +9,19 @@ use lib.IntN.{ℤ}
 use lib.ListN.{length, getD, take, drop, replicate, length-drop, length-replicate, getD-replicate}
 use lib.Seq.{length-take-le}
 use Rattle.layout.specs.declared.sides.Sides.{Sides}
-use Rattle.layout.specs.Tables.{entry, Run}
+use Rattle.layout.specs.Tables.{entry}
+use Rattle.layout.specs.Steps.{Run, Painted, Framed, Ready, Shows, Whitened, LevelledArea, InRows, Outside, Columns, Margins, All}
 use Rattle.layout.specs.Level.{columnShows, placeShows, levelled}
-use Rattle.layout.specs.Steps.{Painted, Framed, Ready, Holds, Whitened, Settled, InRows, Outside, Columns, Margins, All}
 use Rattle.layout.proofs.Places.{le-or-lt, rows-apart, row-within, raster-is}
 use Rattle.layout.proofs.Shows.{place-on, place-beside}
 use Rattle.layout.proofs.Parts.{put, put-length, put-inside, put-before, put-after}
 
 -- nothing done is right in an area without places
-pub holds-none : (w : ℕ) (f : ℕ → ℕ → ℕ) (area : ℕ → ℕ → Type 0) (out : List ℕ) → ((x y : ℕ) → x < w → area x y → ⊥) → Holds w f area out out
+pub holds-none : (w : ℕ) (f : ℕ → ℕ → ℕ) (area : ℕ → ℕ → Type 0) (out : List ℕ) → ((x y : ℕ) → x < w → area x y → ⊥) → Shows w f area out out
 holds-none w f area out none = record { long = refl; kept = λ x y l h. h; right = λ x y l a. absurd (none x y l a) }
 
 -- one step, then another
-pub holds-then : {w : ℕ} {f : ℕ → ℕ → ℕ} {P Q R : ℕ → ℕ → Type 0} {a b c : List ℕ} → Holds w f P a b → Holds w f Q b c → ((x y : ℕ) → x < w → R x y → P x y ⊎ Q x y) → Holds w f R a c
+pub holds-then : {w : ℕ} {f : ℕ → ℕ → ℕ} {P Q R : ℕ → ℕ → Type 0} {a b c : List ℕ} → Shows w f P a b → Shows w f Q b c → ((x y : ℕ) → x < w → R x y → P x y ⊎ Q x y) → Shows w f R a c
 holds-then p q cover =
     record {
       long = q .long ∙ p .long;
@@ -63,7 +62,7 @@ module _ (w : ℕ) (f : ℕ → ℕ → ℕ) (y a n : ℕ) (out ys : List ℕ) (
       (λ (m : z < y). put-before (y * w + a) n ys out long room (z * w + x) (omega (arith, rows-apart w m)) ∙ h)
       (le-or-lt y z)
 
-  pub part-holds : Holds w f (λ x z. (z ≡ y) × ((a ≤ x) × (x < a + n))) out (put (y * w + a) n ys out)
+  pub part-holds : Shows w f (λ x z. (z ≡ y) × ((a ≤ x) × (x < a + n))) out (put (y * w + a) n ys out)
   unfolding out′
   part-holds =
       record {
@@ -73,14 +72,14 @@ module _ (w : ℕ) (f : ℕ → ℕ → ℕ) (y a n : ℕ) (out ys : List ℕ) (
       }
 
 -- a smaller area
-pub holds-in : {w : ℕ} {f : ℕ → ℕ → ℕ} {P R : ℕ → ℕ → Type 0} {a b : List ℕ} → Holds w f P a b → ((x y : ℕ) → x < w → R x y → P x y) → Holds w f R a b
+pub holds-in : {w : ℕ} {f : ℕ → ℕ → ℕ} {P R : ℕ → ℕ → Type 0} {a b : List ℕ} → Shows w f P a b → ((x y : ℕ) → x < w → R x y → P x y) → Shows w f R a b
 holds-in p part = record { long = p .long; kept = p .kept; right = λ x y l r. p .right x y l (part x y l r) }
 
 -- what is given at one step is given at the next
 pub ready-long : {sides : Sides} {gray : List ℕ} {shear shear-x : List ℤ} {a : List ℕ} (b : List ℕ) → length b ≡ length a → Ready sides gray shear shear-x a → Ready sides gray shear shear-x b
 ready-long b l r = record { sheared = r .sheared; grey-long = r .grey-long; out-long = l ∙ r .out-long }
 
-pub ready-after : {sides : Sides} {gray : List ℕ} {shear shear-x : List ℤ} {f : ℕ → ℕ → ℕ} {area : ℕ → ℕ → Type 0} {a b : List ℕ} → Ready sides gray shear shear-x a → Holds (sides .w) f area a b → Ready sides gray shear shear-x b
+pub ready-after : {sides : Sides} {gray : List ℕ} {shear shear-x : List ℤ} {f : ℕ → ℕ → ℕ} {area : ℕ → ℕ → Type 0} {a b : List ℕ} → Ready sides gray shear shear-x a → Shows (sides .w) f area a b → Ready sides gray shear shear-x b
 ready-after {b} r h = ready-long b (h .long) r
 
 pub ready-framed : {sides : Sides} {gray : List ℕ} {shear shear-x : List ℤ} {out : List ℕ} → Ready sides gray shear shear-x out → Framed sides shear-x out
@@ -89,15 +88,15 @@ ready-framed r =
     record { page-wide = s .page-wide; wide = s .wide; high = s .high; rows = s .rows; out-long = r .out-long }
 
 module _ (sides : Sides) (gray : List ℕ) (shear shear-x : List ℤ) (area : ℕ → ℕ → Type 0) where
-  pub rows-none : (y : ℕ) (out : List ℕ) → Settled sides gray shear shear-x area y y out out
+  pub rows-none : (y : ℕ) (out : List ℕ) → LevelledArea sides gray shear shear-x area y y out out
   rows-none y out = holds-none (sides .w) (placeShows sides gray shear shear-x) (InRows y y area) out (λ x z l h. omega (arith, h .0 .0, h .0 .1))
 
   -- the rows up to y, then those from y on
-  pub rows-then : (y0 y y1 : ℕ) {a b c : List ℕ} → Settled sides gray shear shear-x area y0 y a b → Settled sides gray shear shear-x area y y1 b c → Settled sides gray shear shear-x area y0 y1 a c
+  pub rows-then : (y0 y y1 : ℕ) {a b c : List ℕ} → LevelledArea sides gray shear shear-x area y0 y a b → LevelledArea sides gray shear shear-x area y y1 b c → LevelledArea sides gray shear shear-x area y0 y1 a c
   rows-then y0 y y1 p q =
       holds-then p q (λ x z l h. ⊎-elim (λ (m : y ≤ z). inr ((m, h .0 .1), h .1)) (λ (m : z < y). inl ((h .0 .0, m), h .1)) (le-or-lt y z))
 
-  pub rows-fewer : (y0 y1 y : ℕ) {a b : List ℕ} → y1 ≤ y → Settled sides gray shear shear-x area y0 y a b → Settled sides gray shear shear-x area y0 y1 a b
+  pub rows-fewer : (y0 y1 y : ℕ) {a b : List ℕ} → y1 ≤ y → LevelledArea sides gray shear shear-x area y0 y a b → LevelledArea sides gray shear shear-x area y0 y1 a b
   rows-fewer y0 y1 y fewer p = holds-in p (λ x z l h. ((h .0 .0, omega (arith, h .0 .1)), h .1))
 
 -- in one row, the places of one run of columns
@@ -110,7 +109,7 @@ module _ (sides : Sides) (gray : List ℕ) (shear shear-x : List ℤ) (out : Lis
       let last = row-within (sides .w) (sides .h) in-rows in
       (omega (arith, run .within), (omega (arith, run .within, ready .sheared .page-wide), omega (arith, ready .out-long)))
 
-  pub run-settled : (at s n : ℕ) (ys : List ℕ) → at ≡ entry shear-x y → s ≡ y * sides .w + at + from → n ≡ to - from → Painted (columnShows sides gray down) from y (take n (drop s out)) ys → Settled sides gray shear shear-x (Columns shear-x from to) y (y + 1) out (put s n ys out)
+  pub run-settled : (at s n : ℕ) (ys : List ℕ) → at ≡ entry shear-x y → s ≡ y * sides .w + at + from → n ≡ to - from → Painted (columnShows sides gray down) from y (take n (drop s out)) ys → LevelledArea sides gray shear shear-x (Columns shear-x from to) y (y + 1) out (put s n ys out)
   run-settled at s n ys is-at is-s is-n painted =
       let w = sides .w in
       let f = placeShows sides gray shear shear-x in
@@ -146,7 +145,7 @@ module _ (w y a n s : ℕ) (out ys : List ℕ) (place : s ≡ y * w + a) (in-row
       all-white : ys ≡ replicate n 255
       all-white = white ∙ ap (λ (k : ℕ). replicate k 255) part-long
 
-      at : (f : ℕ → ℕ → ℕ) → ((x z : ℕ) → x < w → InRows y (y + 1) (λ x z. (a ≤ x) × (x < a + n)) x z → f x z ≡ 255) → Holds w f (InRows y (y + 1) (λ x z. (a ≤ x) × (x < a + n))) out (put (y * w + a) n ys out)
+      at : (f : ℕ → ℕ → ℕ) → ((x z : ℕ) → x < w → InRows y (y + 1) (λ x z. (a ≤ x) × (x < a + n)) x z → f x z ≡ 255) → Shows w f (InRows y (y + 1) (λ x z. (a ≤ x) × (x < a + n))) out (put (y * w + a) n ys out)
       at f is-white =
           holds-in
           (part-holds w f y a n out ys (ap length all-white ∙ length-replicate n 255) in-row (omega arith)
@@ -187,15 +186,15 @@ margins-more sides shear-x y0 y s order is-s p q = white-then p q cover (λ x z 
 -- ---- the columns of a band, run by run
 
 module _ (sides : Sides) (gray : List ℕ) (shear shear-x : List ℤ) (y0 y1 : ℕ) where
-  pub columns-none : (out : List ℕ) → Settled sides gray shear shear-x (Columns shear-x 0 0) y0 y1 out out
+  pub columns-none : (out : List ℕ) → LevelledArea sides gray shear shear-x (Columns shear-x 0 0) y0 y1 out out
   columns-none out = holds-none (sides .w) (placeShows sides gray shear shear-x) (InRows y0 y1 (Columns shear-x 0 0)) out (λ x z l h. omega (arith, h .1 .0, h .1 .1))
 
-  pub columns-then : (to to′ : ℕ) {a b c : List ℕ} → Settled sides gray shear shear-x (Columns shear-x 0 to) y0 y1 a b → Settled sides gray shear shear-x (Columns shear-x to to′) y0 y1 b c → Settled sides gray shear shear-x (Columns shear-x 0 to′) y0 y1 a c
+  pub columns-then : (to to′ : ℕ) {a b c : List ℕ} → LevelledArea sides gray shear shear-x (Columns shear-x 0 to) y0 y1 a b → LevelledArea sides gray shear shear-x (Columns shear-x to to′) y0 y1 b c → LevelledArea sides gray shear shear-x (Columns shear-x 0 to′) y0 y1 a c
   columns-then to to′ p q =
       holds-then p q (λ x z l h. ⊎-elim (λ (m : entry shear-x z + to ≤ x). inr (h .0, (m, h .1 .1))) (λ (m : x < entry shear-x z + to). inl (h .0, (h .1 .0, m))) (le-or-lt (entry shear-x z + to) x))
 
   -- the margins, then all columns
-  pub band-whole : (n : ℕ) {a b c : List ℕ} → sides .pw ≤ n → Whitened (sides .w) (InRows y0 y1 (Margins sides shear-x)) a b → Settled sides gray shear shear-x (Columns shear-x 0 n) y0 y1 b c → Settled sides gray shear shear-x All y0 y1 a c
+  pub band-whole : (n : ℕ) {a b c : List ℕ} → sides .pw ≤ n → Whitened (sides .w) (InRows y0 y1 (Margins sides shear-x)) a b → LevelledArea sides gray shear shear-x (Columns shear-x 0 n) y0 y1 b c → LevelledArea sides gray shear shear-x All y0 y1 a c
   band-whole n whole p q =
       holds-then (p .holds (placeShows sides gray shear shear-x) (λ x z l h. place-beside sides gray shear shear-x x z (h .1))) q (λ x z l h.
       ⊎-elim
@@ -204,6 +203,6 @@ module _ (sides : Sides) (gray : List ℕ) (shear shear-x : List ℤ) (y0 y1 : �
       (le-or-lt (entry shear-x z) x))
 
 -- all rows are the raster
-pub all-levelled : (sides : Sides) (gray : List ℕ) (shear shear-x : List ℤ) (out out′ : List ℕ) (y : ℕ) → sides .h ≤ y → Ready sides gray shear shear-x out → Settled sides gray shear shear-x All 0 y out out′ → out′ ≡ levelled sides gray shear shear-x
+pub all-levelled : (sides : Sides) (gray : List ℕ) (shear shear-x : List ℤ) (out out′ : List ℕ) (y : ℕ) → sides .h ≤ y → Ready sides gray shear shear-x out → LevelledArea sides gray shear shear-x All 0 y out out′ → out′ ≡ levelled sides gray shear shear-x
 all-levelled sides gray shear shear-x out out′ y whole r p =
     raster-is (sides .w) (sides .h) (placeShows sides gray shear shear-x) out′ (p .long ∙ r .out-long) (λ x z l m. p .right x z l ((omega arith, omega arith), tt))

@@ -1,5 +1,4 @@
 -- What a levelled place shows, said by its page column: on the page's columns that column, beside them white.
--- Assumes nothing.
 use mathlib.Core.Path.{_≡_, ap, _∙_}
 use mathlib.Core.Logic.{_⊎_, ⊎-elim}
 use mathlib.Core.Bool.{Bool, true, false, _&&_, cond}

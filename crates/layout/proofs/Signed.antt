@@ -1,5 +1,4 @@
 -- Signed numbers as the code reads and compares them, over the width.
--- Assumes nothing.
 use mathlib.Core.Path.{ap₂, _≡_, refl, sym, ap, _∙_}
 use mathlib.Core.Bool.{Bool, true, false, cond, true≢false}
 use Prim.Native.Nat.{ℕ, zero, suc, _+_, _-_, _^_, _≤_, _<_}

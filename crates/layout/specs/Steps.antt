@@ -1,13 +1,38 @@
 -- What the steps of `level_gray` promise each other. Each writes only what is right, so what is right stays right.
-use Prim.Native.Nat.{ℕ, _+_, _-_, _*_, _≤_, _<_}
+use Prim.Native.Nat.{ℕ, _-_, _≤_, _<_, _+_, _*_}
 use mathlib.Core.Path.{_≡_}
-use mathlib.Core.Logic.{_⊎_}
 use mathlib.Core.List.{List}
-use lib.IntN.{ℤ}
+use lib.IntN.{ℤ, pos}
 use lib.ListN.{length, getD}
 use Rattle.layout.specs.declared.sides.Sides.{Sides}
-use Rattle.layout.specs.Tables.{entry, Table, Sheared}
+use Rattle.layout.specs.Tables.{entry}
+use mathlib.Core.Logic.{_⊎_}
 use Rattle.layout.specs.Level.{placeShows}
+
+-- No entry is below 0.
+abbrev pub NotBelow : List ℤ → Type 0
+NotBelow table = (i : ℕ) → i < length table → getD table i (pos 0) ≡ pos (entry table i)
+
+-- A table with n entries, each from 0 to limit.
+pub record Table (n limit : ℕ) (table : List ℤ) : Type 0 where
+  pub long : length table ≡ n
+  pub whole : NotBelow table
+  pub most : (i : ℕ) → i < n → entry table i ≤ limit
+
+-- Sides and tables that pass questions 1, 3 and 4, as plain facts.
+pub record Sheared (sides : Sides) (shear shear-x : List ℤ) : Type 0 where
+  pub page-wide : sides .pw ≤ sides .w
+  pub page-high : sides .ph ≤ sides .h
+  pub wide : sides .w ≤ 8192
+  pub high : sides .h ≤ 8192
+  pub columns : Table (sides .pw) (sides .h - sides .ph) shear
+  pub rows : Table (sides .h) (sides .w - sides .pw) shear-x
+
+-- From column `from` on, all columns before column `to` have one entry.
+pub record Run (table : List ℤ) (from to : ℕ) : Type 0 where
+  pub more : from < to
+  pub within : to ≤ length table
+  pub same : (i : ℕ) → from ≤ i → i < to → entry table i ≡ entry table from
 
 -- A part of row y that begins at column `from` shows f.
 pub record Painted (f : ℕ → ℕ → ℕ) (from y : ℕ) (out out′ : List ℕ) : Type 0 where
@@ -29,7 +54,7 @@ pub record Ready (sides : Sides) (gray : List ℕ) (shear shear-x : List ℤ) (o
   pub out-long : length out ≡ sides .w * sides .h
 
 -- In rasters of w columns, from out to out′: every place of the area holds f, and every place that held f still does.
-pub record Holds (w : ℕ) (f : ℕ → ℕ → ℕ) (area : ℕ → ℕ → Type 0) (out out′ : List ℕ) : Type 0 where
+pub record Shows (w : ℕ) (f : ℕ → ℕ → ℕ) (area : ℕ → ℕ → Type 0) (out out′ : List ℕ) : Type 0 where
   pub long : length out′ ≡ length out
   pub kept : (x y : ℕ) → x < w → getD out (y * w + x) 0 ≡ f x y → getD out′ (y * w + x) 0 ≡ f x y
   pub right : (x y : ℕ) → x < w → area x y → getD out′ (y * w + x) 0 ≡ f x y
@@ -40,11 +65,11 @@ InRows y0 y1 area x y = ((y0 ≤ y) × (y < y1)) × area x y
 
 -- White paper in the area: right for every f that is 255 there.
 pub record Whitened (w : ℕ) (area : ℕ → ℕ → Type 0) (out out′ : List ℕ) : Type 0 where
-  pub holds : (f : ℕ → ℕ → ℕ) → ((x y : ℕ) → x < w → area x y → f x y ≡ 255) → Holds w f area out out′
+  pub holds : (f : ℕ → ℕ → ℕ) → ((x y : ℕ) → x < w → area x y → f x y ≡ 255) → Shows w f area out out′
 
 -- A step that levels an area of the rows from y0 up to y1.
-abbrev pub Settled : Sides → List ℕ → List ℤ → List ℤ → (ℕ → ℕ → Type 0) → ℕ → ℕ → List ℕ → List ℕ → Type 0
-Settled sides gray shear shear-x area y0 y1 = Holds (sides .w) (placeShows sides gray shear shear-x) (InRows y0 y1 area)
+abbrev pub LevelledArea : Sides → List ℕ → List ℤ → List ℤ → (ℕ → ℕ → Type 0) → ℕ → ℕ → List ℕ → List ℕ → Type 0
+LevelledArea sides gray shear shear-x area y0 y1 = Shows (sides .w) (placeShows sides gray shear shear-x) (InRows y0 y1 area)
 
 -- Where the page columns from `from` up to `to` are put.
 abbrev pub Columns : List ℤ → ℕ → ℕ → ℕ → ℕ → Type 0

@@ -1,6 +1,5 @@
 -- The shear tables: document 01, question 4 and what question 3 asks of them.
-use Prim.Native.Nat.{ℕ, _-_, _≤_, _<_}
-use mathlib.Core.Path.{_≡_}
+use Prim.Native.Nat.{ℕ, _-_}
 use mathlib.Core.Bool.{Bool, _&&_}
 use mathlib.Core.List.{List}
 use lib.Dec.{leb, eqb}
@@ -29,28 +28,3 @@ tablesLong sides shear shear-x = eqb (length shear) (sides .pw) && eqb (length s
 -- Question 4: every `shear` entry from 0 to height − page height, every `shear_x` entry from 0 to width − page width.
 abbrev pub tablesFit : Sides → List ℤ → List ℤ → Bool
 tablesFit sides shear shear-x = entriesFit (sides .h - sides .ph) shear && entriesFit (sides .w - sides .pw) shear-x
-
--- No entry is below 0.
-abbrev pub NotBelow : List ℤ → Type 0
-NotBelow table = (i : ℕ) → i < length table → getD table i (pos 0) ≡ pos (entry table i)
-
--- A table with n entries, each from 0 to limit.
-pub record Table (n limit : ℕ) (table : List ℤ) : Type 0 where
-  pub long : length table ≡ n
-  pub whole : NotBelow table
-  pub most : (i : ℕ) → i < n → entry table i ≤ limit
-
--- Sides and tables that pass questions 1, 3 and 4, as plain facts.
-pub record Sheared (sides : Sides) (shear shear-x : List ℤ) : Type 0 where
-  pub page-wide : sides .pw ≤ sides .w
-  pub page-high : sides .ph ≤ sides .h
-  pub wide : sides .w ≤ 8192
-  pub high : sides .h ≤ 8192
-  pub columns : Table (sides .pw) (sides .h - sides .ph) shear
-  pub rows : Table (sides .h) (sides .w - sides .pw) shear-x
-
--- From column `from` on, all columns before column `to` have one entry.
-pub record Run (table : List ℤ) (from to : ℕ) : Type 0 where
-  pub more : from < to
-  pub within : to ≤ length table
-  pub same : (i : ℕ) → from ≤ i → i < to → entry table i ≡ entry table from

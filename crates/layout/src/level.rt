@@ -3,9 +3,8 @@
 ghost use mathlib.Core.Path.{_≡_};
 ghost use Prim.Native.Nat.{_+_, _*_, _≤_, _<_};
 ghost use lib.ListN.{length};
-ghost use Rattle.layout.specs.Tables.{Run};
+ghost use Rattle.layout.specs.Steps.{Run, Painted, Framed, Ready, Whitened, LevelledArea, InRows, Outside, Columns, Margins, All};
 ghost use Rattle.layout.specs.Level.{columnShows, levelled};
-ghost use Rattle.layout.specs.Steps.{Painted, Framed, Ready, Whitened, Settled, InRows, Outside, Columns, Margins, All};
 use crate::raster;
 use crate::sides::Sides;
 use crate::tables;
@@ -39,7 +38,7 @@ fn level_part(
     y: usize,
 )
     requires { ⌜ Ready sides (now gray) (now shear) (now «shear_x») (now out) × (Run (now shear) from to × (y < sides .h)) ⌝ }
-    ensures { λ _. ⌜ Settled sides (now (gray .entry)) (now (shear .entry)) (now («shear_x» .entry)) (Columns (now («shear_x» .entry)) from to) y (y + 1) (now (out .entry)) (now (out .exit)) ⌝ }
+    ensures { λ _. ⌜ LevelledArea sides (now (gray .entry)) (now (shear .entry)) (now («shear_x» .entry)) (Columns (now («shear_x» .entry)) from to) y (y + 1) (now (out .entry)) (now (out .exit)) ⌝ }
 {
     let down = tables::entry_at(shear, from);
     let page = y * sides.w + tables::entry_at(shear_x, y);
@@ -59,7 +58,7 @@ fn level_columns(
     y1: usize,
 )
     requires { ⌜ Ready sides (now gray) (now shear) (now «shear_x») (now out) × (Run (now shear) from to × (y1 ≤ sides .h)) ⌝ }
-    ensures { λ _. ⌜ Settled sides (now (gray .entry)) (now (shear .entry)) (now («shear_x» .entry)) (Columns (now («shear_x» .entry)) from to) y0 y1 (now (out .entry)) (now (out .exit)) ⌝ }
+    ensures { λ _. ⌜ LevelledArea sides (now (gray .entry)) (now (shear .entry)) (now («shear_x» .entry)) (Columns (now («shear_x» .entry)) from to) y0 y1 (now (out .entry)) (now (out .exit)) ⌝ }
 {
     let mut y = y0;
     while y < y1 {
@@ -102,7 +101,7 @@ fn level_rows(
     y1: usize,
 )
     requires { ⌜ Ready sides (now gray) (now shear) (now «shear_x») (now out) × ((y0 ≤ y1) × (y1 ≤ sides .h)) ⌝ }
-    ensures { λ _. ⌜ Settled sides (now (gray .entry)) (now (shear .entry)) (now («shear_x» .entry)) All y0 y1 (now (out .entry)) (now (out .exit)) ⌝ }
+    ensures { λ _. ⌜ LevelledArea sides (now (gray .entry)) (now (shear .entry)) (now («shear_x» .entry)) All y0 y1 (now (out .entry)) (now (out .exit)) ⌝ }
 {
     pad_rows(sides, shear_x, out, y0, y1);
     let mut x = 0;

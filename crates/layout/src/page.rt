@@ -2,7 +2,7 @@
 ghost use mathlib.Core.Path.{_≡_};
 ghost use Prim.Native.Nat.{_≤_, _<_};
 ghost use lib.IntN.{subℕ};
-ghost use Rattle.layout.specs.Tables.{Sheared};
+ghost use Rattle.layout.specs.Steps.{Sheared};
 ghost use Rattle.layout.specs.ToPage as To;
 ghost use Rattle.layout.specs.ToPage.{toPage, rectToPage};
 use crate::rect::PageRect;

@@ -2,7 +2,8 @@
 ghost use mathlib.Core.Path.{_≡_};
 ghost use Prim.Native.Nat.{_≤_, _<_};
 ghost use lib.ListN.{length};
-ghost use Rattle.layout.specs.Tables.{entry, entriesFit, entryFits, tablesLong, tablesFit, NotBelow, Run};
+ghost use Rattle.layout.specs.Tables.{entry, entriesFit, entryFits, tablesLong, tablesFit};
+ghost use Rattle.layout.specs.Steps.{NotBelow, Run};
 use crate::sides::Sides;
 
 // An entry that is not below 0.

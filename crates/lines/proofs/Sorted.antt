@@ -11,7 +11,8 @@ use lib.Seq.{getD-take}
 use Rattle.lists.proofs.Keep.{getD-map}
 use Rattle.order.specs.Order.{keyAt, sortedIndexes}
 use Rattle.order.proofs.Computed.{sorted-by, sorted-length}
-use Rattle.lines.specs.Lines.{inOrder, exceeds, lineAt, linesTo, Ordered}
+use Rattle.lines.specs.Lines.{inOrder, exceeds, lineAt, linesTo}
+use Rattle.lines.specs.Steps.{Ordered}
 
 module _ (positions o : List ℕ) (O : Ordered positions o) (i : ℕ) (l : i < length positions) where
   same-place : getD o i 0 ≡ getD (sortedIndexes positions) i 0

@@ -3,7 +3,8 @@ ghost use mathlib.Core.Path.{_≡_};
 ghost use mathlib.Core.Bool.{cond};
 ghost use Prim.Native.Nat.{suc, _+_, _<_, _^_};
 ghost use lib.ListN.{length, getD};
-ghost use Rattle.lines.specs.Lines.{inOrder, exceeds, Room, Ordered, Lined, Numbered};
+ghost use Rattle.lines.specs.Lines.{inOrder, exceeds};
+ghost use Rattle.lines.specs.Steps.{Room, Ordered, Lined, Numbered};
 
 // Does a position exceed the previous one by more than the limit?
 fn exceeds(limit: u64, previous: u64, position: u64) -> bool

@@ -1,4 +1,4 @@
--- What `everyBelow` says, both ways, and where it fails. Assumes nothing.
+-- What `everyBelow` says, both ways, and where it fails.
 use mathlib.Core.Path.{_≡_, refl, sym, ap, _∙_, subst}
 use mathlib.Core.Logic.{_⊎_, inl, inr}
 use mathlib.Core.Bool.{Bool, true, false, _&&_, true≢false}

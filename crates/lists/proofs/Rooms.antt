@@ -1,4 +1,4 @@
--- What room for n entries in four lists says, once the test is passed. Assumes nothing.
+-- What room for n entries in four lists says, once the test is passed.
 use mathlib.Core.Path.{_≡_}
 use mathlib.Core.Bool.{true, _&&_}
 use Prim.Native.Nat.{ℕ, _≤_, _<_, _^_}

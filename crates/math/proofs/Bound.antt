@@ -1,5 +1,4 @@
 -- Bounds of float steps from bounds of their operands, of either sign: what stays below 2 ^ prec stays finite, and rounding doesn't pass a whole bound.
--- Assumes nothing.
 use mathlib.Core.Path.{_≡_, refl, sym, ap, _∙_, subst}
 use Prim.Native.Nat.{ℕ, suc, _+_, _-_, _*_, _/_, _^_, _≤_, _<_}
 use native.Mathlib.Nat.{sub-le, add-mul, mul-one, mul-assoc, mul-comm, mul-left-comm, mul-right-comm, mul-mul-mul-comm, mul-pos, mul-le-mul, mul-le-mul-left, mul-le-mul-right, mul-lt-mul-of-pos-right, le-trans, le-of-eq, le-add-left, le-add-right, lt-of-lt-of-le, lt-of-le-of-lt, le-of-mul-le-mul-right, add-sub-cancel-left, add-le-add}

@@ -1,5 +1,4 @@
 -- A float beside the ends of i64: at or past the upper end, below the lower one, or between them, where the whole part is the cast.
--- Assumes nothing.
 use mathlib.Core.Path.{_≡_, refl, sym, ap, _∙_, subst}
 use Prim.Native.Nat.{ℕ, _+_, _-_, _*_, _/_, _^_, _≤_, _<_, min}
 use native.Mathlib.Nat.{mul-one, one-mul, mul-pos, le-of-eq, le-trans, lt-of-lt-of-le, le-of-lt, le-div-iff-mul-le, eq-or-lt-of-le, le-add-right, le-add-left}

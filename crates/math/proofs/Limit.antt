@@ -1,6 +1,5 @@
 -- Rounded products have whole limits: of two factors that are not below zero and at most a and b it is a whole number from 0 to a * b.
 -- A finite float is not below zero where its sign is clear or its size is 0, and rounding keeps both. Last, what tests against a whole number say.
--- Assumes nothing.
 use mathlib.Core.Path.{_≡_, refl, sym, ap, _∙_, subst}
 use Prim.Native.Nat.{ℕ, _+_, _-_, _*_, _/_, _^_, _≤_, _<_, min}
 use native.Mathlib.Nat.{le-trans, le-of-eq, le-of-lt, lt-of-le-of-lt, mul-one, zero-mul, mul-zero, mul-right-comm, mul-pos, mul-le-mul, mul-mul-mul-comm, div-lt-iff-lt-mul, mul-lt-mul-of-pos-right, div-eq-of-lt, le-of-mul-le-mul-right, lt-trans}
@@ -16,7 +15,8 @@ use lib.Ieee.Positive.{num, den, positive, den-pos, first-pos}
 use lib.Ieee.Scale.{finite, grid}
 use borrow.Author.Tests.{ltb-true, ltb-false, eqb-true, le-ltb}
 use Rattle.math.specs.Constants as Constants
-use Rattle.math.specs.Rounding.{nearestWhole, roundAway, roundedProduct, UpTo}
+use Rattle.math.specs.Rounding.{nearestWhole, roundAway, roundedProduct}
+use Rattle.math.specs.Steps.{UpTo}
 use Rattle.math.specs.Select.{absolute, negative}
 use Rattle.math.proofs.Bound.{AtMost, own-value, grid-at-most, grid-under, round-at-most, mul-at-most}
 use Rattle.math.proofs.Rounded.{nearest-le}

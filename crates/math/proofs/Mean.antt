@@ -1,5 +1,5 @@
 -- The mean's bound: a median less a mean, one rounding in the division and one in the subtraction, is within 2 ^ -45 of the exact fraction.
--- Each result is below 256 in size, so each rounding is off by half of 2 ^ -45 at most. Assumes nothing.
+-- Each result is below 256 in size, so each rounding is off by half of 2 ^ -45 at most.
 use mathlib.Core.Path.{_≡_, refl, sym, ap, _∙_, subst}
 use Prim.Native.Nat.{ℕ, _+_, _-_, _*_, _^_, _≤_, _<_}
 use native.Mathlib.Nat.{mul-one, one-mul, zero-mul, add-mul, mul-add, mul-assoc, mul-comm, mul-left-comm, mul-right-comm, mul-pos, mul-le-mul-left, mul-le-mul-right, mul-lt-mul-of-pos-right, le-trans, le-of-eq, lt-of-le-of-lt, lt-of-lt-of-le, le-of-mul-le-mul-right, sub-add-cancel, sub-le, le-of-lt}

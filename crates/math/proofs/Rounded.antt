@@ -1,5 +1,4 @@
 -- Rounding to a whole number, and casts: the doubled value is exact, so its whole part plus one, halved, is the nearest whole number; from 2 ^ 52 on a float is whole already.
--- Assumes nothing.
 use mathlib.Core.Path.{_≡_, refl, sym, ap, _∙_, subst}
 use Prim.Native.Nat.{ℕ, zero, suc, _+_, _-_, _*_, _/_, _^_, _≤_, _<_, min, zero-le}
 use native.Mathlib.Nat.{le-refl, le-trans, le-of-eq, lt-of-lt-of-le, lt-of-le-of-lt, lt-of-mul-lt-mul-right, mul-one, one-mul, zero-mul, mul-assoc, mul-comm, mul-left-comm, mul-right-comm, mul-pos, mul-le-mul-left, mul-le-mul-right, mul-lt-mul-of-pos-right, pow-succ', add-div-right, div-div-eq-div-mul, div-lt-iff-lt-mul, div-eq-of-lt, two-mul, add-mul, not-le-of-lt, lt-irrefl, div-one, zero-lt-suc, le-add-right, le-of-lt, div-mul-le-self, lt-div-mul-add}

@@ -7,7 +7,8 @@ use native.Mathlib.Omega.{arith}
 use lib.Ieee.{Float, nan}
 use lib.ListN.{length, getD, take, drop, length-map, length-take, length-drop}
 use lib.Seq.{getD-take, getD-drop}
-use Rattle.math.specs.Sum.{valuesAt, PlacesIn}
+use Rattle.math.specs.Sum.{valuesAt}
+use Rattle.math.specs.Steps.{PlacesIn}
 
 pub values-long : (values : List Float) (places : List ℕ) → length (valuesAt values places) ≡ length places
 values-long values places = length-map places (λ i. getD values i nan)

@@ -1,4 +1,4 @@
--- The bound of a pairwise sum: n values of at most b each make a sum of at most n * b, as long as that is below 2 ^ 53. Assumes nothing.
+-- The bound of a pairwise sum: n values of at most b each make a sum of at most n * b, as long as that is below 2 ^ 53.
 use mathlib.Core.Path.{_≡_, refl, sym, ap, _∙_, subst}
 use Prim.Native.Nat.{ℕ, zero, suc, _+_, _-_, _*_, _/_, _^_, _≤_, _<_, min}
 use native.Mathlib.Nat.{le-of-eq, le-trans, lt-of-le-of-lt, le-add-left, le-add-right, zero-mul, zero-add, add-zero, add-mul, suc-mul, add-assoc, add-comm}

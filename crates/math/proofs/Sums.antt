@@ -1,5 +1,5 @@
 -- `pairwiseSum` by the sentence of document 01, whatever number of cuts it is given; and sums of whole numbers, which are exact.
--- A list is longer than either half, so as many cuts as it has values are enough. Assumes nothing.
+-- A list is longer than either half, so as many cuts as it has values are enough.
 use mathlib.Core.Path.{_≡_, refl, sym, ap, ap₂, _∙_, subst}
 use Prim.Native.Nat.{ℕ, zero, suc, _+_, _-_, _*_, _/_, _^_, _≤_, _<_, min}
 use native.Mathlib.Nat.{le-refl, le-trans, le-of-eq, le-suc, le-add-left, le-add-right, mul-one, zero-mul, suc-mul, zero-add, add-zero, add-assoc}

@@ -1,5 +1,4 @@
 -- What the tests of `math`'s functions say of a float: of its sign, of whether it is finite, and of its place beside a constant.
--- Assumes nothing.
 use mathlib.Core.Path.{_≡_, refl, sym, ap, _∙_, subst}
 use Prim.Native.Nat.{ℕ, zero, suc, _+_, _-_, _*_, _/_, _%_, _^_, _≤_, _<_, min}
 use native.Mathlib.Nat.{le-refl, lt-irrefl, mul-one, one-mul, zero-mul, mul-pos, le-of-eq, le-trans, lt-of-lt-of-le, lt-of-le-of-lt, sub-self, le-div-iff-mul-le, eq-or-lt-of-le}

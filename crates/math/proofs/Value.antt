@@ -1,5 +1,5 @@
 -- A finite float is a sign and a fraction, and an operation on two of them is one rounding of a fraction.
--- `HasValue x s a c` (of the kit) says that x is finite with the sign s and the size a / c. Assumes nothing.
+-- `HasValue x s a c` (of the kit) says that x is finite with the sign s and the size a / c.
 use mathlib.Core.Path.{_≡_, refl, sym, ap, _∙_, subst}
 use Prim.Native.Nat.{ℕ, zero, suc, _+_, _-_, _*_, _/_, _%_, _^_, _≤_, _<_}
 use native.Mathlib.Nat.{lt-of-le-of-lt, lt-of-lt-of-le, le-of-eq, le-trans, mul-assoc, mul-comm, mul-left-comm, mul-right-comm, mul-mul-mul-comm, mul-pos, mul-one, one-mul, add-mul, mul-sub, mul-lt-mul-of-pos-right, lt-of-mul-lt-mul-right, zero-lt-suc, zero-mul, sub-add-cancel, mul-le-mul-right, le-of-mul-le-mul-right, le-of-suc-le-suc, lt-of-not-le, lt-irrefl, ne-of-gt}

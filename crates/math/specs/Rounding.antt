@@ -1,8 +1,7 @@
 -- Document 01's "round": to the nearest whole number, halves away from zero, and the limits that are rounded products.
-use Prim.Native.Nat.{ℕ, _+_, _*_, _/_, _≤_}
-use mathlib.Core.Path.{_≡_}
+use Prim.Native.Nat.{ℕ, _+_, _*_, _/_}
 use mathlib.Core.Bool.{cond}
-use lib.IntN.{ℤ, pos, natAbs}
+use lib.IntN.{ℤ}
 use lib.Ieee.{Float, nan, inf, fin, binary64, up, down, round, mul, div, eq, toSigned}
 use Rattle.math.specs.Constants.{zero, million}
 
@@ -19,11 +18,6 @@ roundAway (fin s m e) = round binary64 s (nearestWhole (m * up e) (down e)) 1
 -- round(a × b) as a whole number: one rounded product, rounded to a whole number, cast as The Rust Reference casts to i64.
 abbrev pub roundedProduct : Float → Float → ℤ
 roundedProduct a b = toSigned 63 (roundAway (mul binary64 a b))
-
--- z is a whole number from 0 to n.
-pub record UpTo (n : ℕ) (z : ℤ) : Type 0 where
-  pub is : z ≡ pos (natAbs z)
-  pub at-most : natAbs z ≤ n
 
 -- `round_output`: to six decimals, and a zero of either sign is +0.
 abbrev pub roundOutput : Float → Float

@@ -1,5 +1,5 @@
 -- `pairwise_sum`.
-use Prim.Native.Nat.{ℕ, zero, suc, _+_, _/_, _<_}
+use Prim.Native.Nat.{ℕ, zero, suc, _+_, _/_}
 use mathlib.Core.Bool.{Bool, true, false}
 use mathlib.Core.List.{List, [], _∷_, map}
 use lib.Dec.{leb}
@@ -35,10 +35,6 @@ pairwiseSum xs = halved (length xs) (short xs) xs
 -- The values at some places of a list.
 abbrev pub valuesAt : List Float → List ℕ → List Float
 valuesAt values places = map (λ i. getD values i nan) places
-
--- Each of these places is in the list.
-abbrev pub PlacesIn : List Float → List ℕ → Type 0
-PlacesIn values places = (k : ℕ) → k < length places → getD places k 0 < length values
 
 -- A whole number as a float.
 abbrev pub whole : ℕ → Float

@@ -1,7 +1,8 @@
 // `pairwise_sum` of the values at some places of a list.
 ghost use mathlib.Core.Path.{_≡_};
 ghost use Rattle.math.specs.Constants.{zero};
-ghost use Rattle.math.specs.Sum.{addedTo, pairwiseSum, valuesAt, PlacesIn};
+ghost use Rattle.math.specs.Sum.{addedTo, pairwiseSum, valuesAt};
+ghost use Rattle.math.specs.Steps.{PlacesIn};
 
 // The values at some places added from 0.0, left to right.
 fn add_up_at(values: &[f64], places: &[u32]) -> f64

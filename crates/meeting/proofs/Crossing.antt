@@ -15,8 +15,7 @@ use Rattle.lists.specs.Lists.{In, below, written}
 use Rattle.lists.proofs.Every.{and-first}
 use Rattle.lists.proofs.Keep.{in-below, below-in, in-kept, kept-in, at-in}
 use Rattle.sets.specs.Closed.{Below}
-use Rattle.sets.specs.Joins.{Joins}
-use Rattle.sets.specs.Parents.{Room, Parents, root, merged, Joined}
+use Rattle.sets.specs.Steps.{Joins, Room, Parents, root, merged, Joined}
 use Rattle.sets.proofs.Chains.{chain-step}
 use Rattle.sets.proofs.Joins.{joins-none, joins-more, joins-same, joins-exchange}
 use Rattle.sets.proofs.Roots.{root-parent}

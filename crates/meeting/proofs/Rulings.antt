@@ -10,14 +10,14 @@ use Rattle.rects.specs.declared.Rect.{Rect}
 use Rattle.rects.specs.Rects.{rectAt}
 use Rattle.meeting.specs.declared.segment.Segment.{Segment}
 use Rattle.meeting.specs.Segments.{opposite, spanHolds, touches}
-use Rattle.meeting.specs.Steps.{Given, Inside}
+use Rattle.meeting.specs.Steps.{Given, IndexesBelow}
 
 pub sums-fit : {rects directions chosen : List ℕ} → Given rects directions chosen → (i : ℕ) → i < length chosen → (r : Rect) → r ≡ rectAt rects (getD chosen i 0)
     → (r .x0 + r .x1 < 2 ^ 32) × (r .y0 + r .y1 < 2 ^ 32)
 sums-fit G i l r e = let I = G .inside i l in rw e (omega (arith, I .wide, I .right), omega (arith, I .high, I .bottom))
 
 -- the member at a place of a set
-pub member-within : {n : ℕ} (set : List ℕ) → Inside n set → (k : ℕ) → k < length set → getD set k 0 < n
+pub member-within : {n : ℕ} (set : List ℕ) → IndexesBelow n set → (k : ℕ) → k < length set → getD set k 0 < n
 member-within set I k l = I .within (getD set k 0) (at-in set k l)
 
 swapped : (o p q : Bool) → o && p && q ≡ o && q && p

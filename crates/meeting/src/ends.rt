@@ -5,7 +5,7 @@ ghost use lib.ListN.{length};
 ghost use Rattle.lists.specs.Lists.{any, one};
 ghost use Rattle.meeting.specs.Segments.{rulingAt, joinsEnd};
 ghost use Rattle.meeting.specs.Meeting.{endJoined, joinedEnds, shareOf};
-ghost use Rattle.meeting.specs.Steps.{Given, Inside};
+ghost use Rattle.meeting.specs.Steps.{Given, IndexesBelow};
 use crate::segment;
 use crate::segment::Segment;
 
@@ -34,7 +34,7 @@ fn joined_from_front(
     a: Segment,
     end: u32,
 ) -> bool
-    requires { ⌜ (join < 2 ^ 32) × Given (now rects) (now directions) (now chosen) × Inside (length (now chosen)) (now set) ⌝ }
+    requires { ⌜ (join < 2 ^ 32) × Given (now rects) (now directions) (now chosen) × IndexesBelow (length (now chosen)) (now set) ⌝ }
     ensures { λ r. ⌜ r ≡ any (λ j. joinsEnd join end a (rulingAt (now (rects .entry)) (now (directions .entry)) (now (chosen .entry)) j)) (now (set .entry)) ⌝ }
 {
     let mut k = 0;
@@ -57,7 +57,7 @@ fn joined_from_back(
     a: Segment,
     end: u32,
 ) -> bool
-    requires { ⌜ (join < 2 ^ 32) × Given (now rects) (now directions) (now chosen) × Inside (length (now chosen)) (now set) ⌝ }
+    requires { ⌜ (join < 2 ^ 32) × Given (now rects) (now directions) (now chosen) × IndexesBelow (length (now chosen)) (now set) ⌝ }
     ensures { λ r. ⌜ r ≡ any (λ j. joinsEnd join end a (rulingAt (now (rects .entry)) (now (directions .entry)) (now (chosen .entry)) j)) (now (set .entry)) ⌝ }
 {
     let mut k = set.len();
@@ -80,7 +80,7 @@ fn joined_of(
     join: u64,
     i: usize,
 ) -> usize
-    requires { ⌜ (join < 2 ^ 32) × Given (now rects) (now directions) (now chosen) × Inside (length (now chosen)) (now set) × (i < length (now chosen)) ⌝ }
+    requires { ⌜ (join < 2 ^ 32) × Given (now rects) (now directions) (now chosen) × IndexesBelow (length (now chosen)) (now set) × (i < length (now chosen)) ⌝ }
     ensures { λ r. ⌜ r ≡ one (endJoined join (rulingAt (now (rects .entry)) (now (directions .entry)) (now (chosen .entry))) (now (set .entry)) (rulingAt (now (rects .entry)) (now (directions .entry)) (now (chosen .entry)) i .start) i)
         + one (endJoined join (rulingAt (now (rects .entry)) (now (directions .entry)) (now (chosen .entry))) (now (set .entry)) (rulingAt (now (rects .entry)) (now (directions .entry)) (now (chosen .entry)) i .end) i) ⌝ }
 {
@@ -91,7 +91,7 @@ fn joined_of(
 }
 
 fn joined_ends(rects: &[u32], directions: &[u32], chosen: &[u32], set: &[u32], join: u64) -> usize
-    requires { ⌜ (join < 2 ^ 32) × Given (now rects) (now directions) (now chosen) × Inside (length (now chosen)) (now set) ⌝ }
+    requires { ⌜ (join < 2 ^ 32) × Given (now rects) (now directions) (now chosen) × IndexesBelow (length (now chosen)) (now set) ⌝ }
     ensures { λ r. ⌜ r ≡ joinedEnds join (rulingAt (now (rects .entry)) (now (directions .entry)) (now (chosen .entry))) (now (set .entry)) ⌝ }
 {
     let mut joined = 0;
@@ -105,7 +105,7 @@ fn joined_ends(rects: &[u32], directions: &[u32], chosen: &[u32], set: &[u32], j
 
 // Joined ends over all ends.
 pub fn share(rects: &[u32], directions: &[u32], chosen: &[u32], set: &[u32], join: u64) -> f64
-    requires { ⌜ (join < 2 ^ 32) × Given (now rects) (now directions) (now chosen) × Inside (length (now chosen)) (now set) ⌝ }
+    requires { ⌜ (join < 2 ^ 32) × Given (now rects) (now directions) (now chosen) × IndexesBelow (length (now chosen)) (now set) ⌝ }
     ensures { λ r. ⌜ r ≡ shareOf join (rulingAt (now (rects .entry)) (now (directions .entry)) (now (chosen .entry))) (now (set .entry)) ⌝ }
 {
     let joined = joined_ends(rects, directions, chosen, set, join);

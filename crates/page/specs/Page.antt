@@ -128,13 +128,13 @@ module _ (g : Page) where
   abbrev pub scan : Made.Scan
   scan = record { sides = g .sides; shear = g .shear; shear-x = g .shear-x; settings = g .settings; caps = g .caps }
 
-  abbrev pub ruled : Made.Rulings
+  abbrev pub ruled : Made.RulingLists
   ruled = record { rects = rects; directions = directions; contrasts = contrasts }
 
-  abbrev pub tabled : Made.Tables
+  abbrev pub tabled : Made.TableLists
   tabled = record { bounds = bounds; rows = rows; columns = columns; rulings = rulings; shares = shares }
 
-  abbrev pub boxed : Made.Boxes
+  abbrev pub boxed : Made.BoxLists
   boxed = record { rects = boxRects; marks = marks; coverages = coverages; set = λ k. getD boxSets k []; grids = gridNumbers }
 
   -- the findings in the order in which they are made

@@ -18,13 +18,12 @@ use Rattle.params.specs.declared.settings.RulingsParams.{RulingsParams}
 use Rattle.params.specs.declared.settings.FusionParams.{FusionParams}
 use Rattle.finding_lists.specs.Columns.{Columns}
 use Rattle.finding_lists.specs.Steps.{Wrote}
-use Rattle.findings.specs.Keys.{gridKey}
+use Rattle.findings.specs.Steps.{gridKey, Front, FirstKeyed}
 use Rattle.findings.specs.Made.{tableAt, freePlaces, freeOf, freeCount, folds, foldAt, gridOf}
-use Rattle.findings.specs.Steps.{Front, FirstKeyed}
 use Rattle.page.specs.declared.counts.Counts.{Counts}
 use Rattle.page.specs.Lent.{listAt}
 use Rattle.stages.specs.Bundles.{Only, Kept}
-use Rattle.page_findings.specs.Sources.{Sources, Work, Ready, Left}
+use Rattle.page_findings.specs.Steps.{Sources, Work, Ready, Left}
 use Rattle.page_findings.proofs.Steps.{told-folds, place-front, fold-front, told-first, told-rank, told-grids}
 use Rattle.page_findings.proofs.Writing.{told-tables, told-loose, told-fold, told-grid, all}
 

@@ -9,7 +9,8 @@ use lib.Ieee.{Float}
 use lib.ListN.{length, getD, take, length-map}
 use lib.Seq.{sets}
 use Rattle.lists.specs.Lists.{written}
-use Rattle.rects.specs.Rects.{count, AllInside}
+use Rattle.rects.specs.Rects.{count}
+use Rattle.rects.specs.Steps.{AllInside}
 use Rattle.ranks.specs.Ranks as Ranks
 use Rattle.layout.specs.declared.sides.Sides.{Sides}
 use Rattle.params.specs.declared.settings.RulingsParams.{RulingsParams}
@@ -17,9 +18,8 @@ use Rattle.params.specs.declared.settings.FusionParams.{FusionParams}
 use Rattle.evidence.specs.Kinds.{isFold}
 use Rattle.finding_lists.specs.Columns.{Columns}
 use Rattle.finding_lists.specs.Steps.{Wrote, RanksGiven}
-use Rattle.findings.specs.Keys.{gridKey, gridKeys}
+use Rattle.findings.specs.Steps.{gridKey, gridKeys, Mapping, NumbersGiven, PlacesGiven, AllGiven, Front, TablesGiven, GridRectsGiven, GridsGiven, RectsGiven, FirstKeyed, AllRanked, WriteRoom, PageFound}
 use Rattle.findings.specs.Made.{Scan, tableAt, freePlaces, freeOf, freeCount, foldInches, folds, foldAt, gridOf}
-use Rattle.findings.specs.Steps.{Mapping, NumbersGiven, PlacesGiven, AllGiven, Front, TablesGiven, GridRectsGiven, GridsGiven, RectsGiven, FirstKeyed, AllRanked, WriteRoom, PageFound}
 use Rattle.findings.proofs.OnPage.{placed-most}
 use Rattle.findings.proofs.Given.{grid-rects-given}
 use Rattle.findings.proofs.Runs as Runs
@@ -29,7 +29,7 @@ use Rattle.findings.proofs.Demand.{findings-paired}
 use Rattle.finding_stages.specs.Steps.{FaintLong, FirstLong, TablesLong, RulesLong, BoxesLong}
 use Rattle.page.specs.declared.counts.Counts.{Counts}
 use Rattle.stages.proofs.Bundle.{cut}
-use Rattle.page_findings.specs.Sources.{Sources, Work, Ready, Left, ruled, printed, faint, tabled, free, boxed}
+use Rattle.page_findings.specs.Steps.{Sources, Work, Ready, Left, ruled, printed, faint, tabled, free, boxed}
 
 -- four numbers a rectangle
 quarter : (n : ℕ) (l : List ℕ) → 4 * n ≤ length l → count (take (4 * n) l) ≡ n

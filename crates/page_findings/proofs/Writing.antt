@@ -15,15 +15,14 @@ use Rattle.params.specs.declared.settings.FusionParams.{FusionParams}
 use Rattle.finding_lists.specs.Columns.{Columns}
 use Rattle.finding_lists.specs.Steps.{Wrote, RanksGiven}
 use Rattle.evidence.specs.declared.finding.Finding.{Finding}
-use Rattle.findings.specs.Keys.{firstKeys, gridKeys}
+use Rattle.findings.specs.Steps.{firstKeys, gridKeys, Mapping, AllGiven, TablesGiven, GridsGiven, AllRanked, WriteRoom, PageFound}
 use Rattle.findings.specs.Made.{tableAt, freeOf, freeCount, foldAt, gridOf}
-use Rattle.findings.specs.Steps.{Mapping, AllGiven, TablesGiven, GridsGiven, AllRanked, WriteRoom, PageFound}
 use Rattle.findings.proofs.Whole.{write-room, number-is}
 use Rattle.findings.proofs.Writes as Writes
 use Rattle.findings.proofs.Demand.{findings-paired}
 use Rattle.finding_stages.specs.Steps.{TablesLong, RulesLong, BoxesLong}
 use Rattle.page.specs.declared.counts.Counts.{Counts}
-use Rattle.page_findings.specs.Sources.{Sources, Work, Ready, ruled, printed, faint, tabled, free, boxed}
+use Rattle.page_findings.specs.Steps.{Sources, Work, Ready, ruled, printed, faint, tabled, free, boxed}
 use Rattle.page_findings.proofs.Steps.{scan, freed, folded, tables-count, grids-count, freed-given, folded-given}
 
 module _ (n : Counts) (s : Sources) (sides : Sides) (shear shear-x : List ℤ) (p : RulingsParams) (f : FusionParams) (dpi : ℕ) (w : Work) (l : Columns) (R : Ready n s sides shear shear-x p dpi w l) where

@@ -2,7 +2,7 @@
 ghost use mathlib.Core.List.{map};
 ghost use Rattle.page.specs.Lent.{listAt};
 ghost use Rattle.stages.specs.Bundles.{Kept};
-ghost use Rattle.page_findings.specs.Sources.{Ready, Left};
+ghost use Rattle.page_findings.specs.Steps.{Ready, Left};
 use layout::sides::Sides;
 use page::counts::Counts;
 use params::settings::FusionParams;

@@ -1,4 +1,4 @@
--- One pair more: the rule of k + 1 pairs is that of k pairs and pair k. Assumes nothing.
+-- One pair more: the rule of k + 1 pairs is that of k pairs and pair k.
 use mathlib.Core.Path.{_≡_, refl, sym, ap, _∙_, subst}
 use mathlib.Core.Bool.{Bool, true, false, _&&_, _||_, true≢false}
 use mathlib.Core.Logic.{_⊎_, inl, inr}
@@ -11,8 +11,7 @@ use borrow.Author.Tests.{eqb-true, eq-eqb}
 use Rattle.lists.specs.Lists.{below, any}
 use Rattle.lists.proofs.Every.{and-first, and-second, and-both}
 use Rattle.sets.specs.Closed.{Below, Touching}
-use Rattle.sets.specs.Joins.{Joins}
-use Rattle.sets.specs.Parents.{Joined}
+use Rattle.sets.specs.Steps.{Joins, Joined}
 use Rattle.sets.proofs.Joins.{joins-more}
 use Rattle.pairs.specs.Pairs.{paired, Paired}
 

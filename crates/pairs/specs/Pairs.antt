@@ -7,7 +7,8 @@ use lib.Dec.{ltb, eqb}
 use lib.ListN.{length, getD}
 use Rattle.lists.specs.Lists.{below, any, everyBelow, roomFor}
 use Rattle.sets.specs.Closed.{Below, Listed}
-use Rattle.sets.specs.Listing.{closedSets, Answered}
+use Rattle.sets.specs.Listing.{closedSets}
+use Rattle.sets.specs.Steps.{Answered}
 
 -- i and j are one of the first m pairs.
 abbrev pub paired : List ℕ → ℕ → ℕ → ℕ → Bool

@@ -4,8 +4,7 @@ ghost use mathlib.Core.Path.{_≡_};
 ghost use Prim.Native.Nat.{_*_, _/_};
 ghost use lib.ListN.{length};
 ghost use Rattle.sets.specs.Closed.{Below};
-ghost use Rattle.sets.specs.Joins.{Joins};
-ghost use Rattle.sets.specs.Parents.{Room};
+ghost use Rattle.sets.specs.Steps.{Joins, Room};
 ghost use Rattle.pairs.specs.Pairs.{indexesBelow, IndexesBelow, Paired, PairSets};
 
 // Is every number of the list an index below n?

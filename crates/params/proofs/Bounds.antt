@@ -1,4 +1,4 @@
--- What the tests of one float say, in `math`'s terms. Assumes nothing.
+-- What the tests of one float say, in `math`'s terms.
 use mathlib.Core.Path.{_≡_, refl, ap}
 use Prim.Native.Nat.{ℕ}
 use mathlib.Core.Bool.{Bool, true, false, _&&_, _||_}

@@ -1,4 +1,4 @@
--- A test of every float of a list, taken from the front: what is left of the list decides. Assumes nothing.
+-- A test of every float of a list, taken from the front: what is left of the list decides.
 use mathlib.Core.Path.{_≡_, refl, sym, ap, _∙_}
 use Prim.Native.Nat.{ℕ, _+_, _≤_, _<_}
 use native.Mathlib.Numerals.{add-one}

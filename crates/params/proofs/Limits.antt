@@ -1,5 +1,4 @@
 -- What question 2 says of a scan, and with questions 7 and 8 of each rounded limit: a whole number that is small enough for 64 bits with room to spare.
--- Assumes nothing.
 use mathlib.Core.Path.{_≡_, refl, sym, _∙_}
 use Prim.Native.Nat.{ℕ, _*_, _≤_}
 use native.Mathlib.Nat.{le-trans, le-of-eq, mul-one, one-mul, mul-le-mul-right}
@@ -12,7 +11,8 @@ use lib.Ieee.Positive.{num, den, value→cross}
 use lib.Ieee.Scale.{finite}
 use borrow.Author.Tests.{not-true, eqb-false}
 use Rattle.math.specs.Constants.{zero, two}
-use Rattle.math.specs.Rounding.{roundedProduct, UpTo}
+use Rattle.math.specs.Rounding.{roundedProduct}
+use Rattle.math.specs.Steps.{UpTo}
 use Rattle.math.proofs.Bound.{AtMost, AtLeast, value-at-most, mul-at-most}
 use Rattle.math.proofs.Limit.{up-to-more, rounded-product-up-to, mul-not-below}
 use Rattle.math.proofs.Sums.{whole, whole-value}
@@ -23,7 +23,7 @@ use Rattle.params.specs.Scan.{dpiGiven, xheightInRange, scanQuestions, x
 use Rattle.params.proofs.Every.{both-true}
 use Rattle.params.proofs.Bounds.{XHeight, xheight-says}
 use Rattle.params.specs.Limits.{alignSetting}
-use Rattle.params.specs.Settled.{Settled}
+use Rattle.params.specs.Steps.{SettingsPassed}
 use Rattle.params.proofs.Passed.{settings-passed}
 
 -- ---- the scan
@@ -88,7 +88,7 @@ pub record Limits (p : RulingsParams) (xheight : Float) : Type 0 where
   pub line : UpTo (1_000_000 * 4096) (roundedProduct (p .«line_cluster_xh») xheight)
   pub align : UpTo (2 * 1_000_000 * 4096) (roundedProduct (alignSetting p) xheight)
 
-pub limits : (p : RulingsParams) (xheight : Float) → Settled p xheight → Limits p xheight
+pub limits : (p : RulingsParams) (xheight : Float) → SettingsPassed p xheight → Limits p xheight
 limits p xheight S =
     let v = settings-passed p (S .settings) .0 in
     let x = xheight-passed xheight (S .xheight-passed) in

@@ -1,4 +1,4 @@
--- What the settings are once their questions were answered yes, setting by setting. Assumes nothing.
+-- What the settings are once their questions were answered yes, setting by setting.
 use mathlib.Core.Path.{_≡_}
 use Prim.Native.Nat.{_≤_}
 use mathlib.Core.Bool.{true, false, _&&_}

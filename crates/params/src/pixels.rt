@@ -1,7 +1,8 @@
 // The limits in pixels that settings and x-height give.
 ghost use mathlib.Core.Path.{_≡_};
 ghost use Prim.Native.Nat.{_*_};
-ghost use Rattle.math.specs.Rounding.{roundedProduct, UpTo};
+ghost use Rattle.math.specs.Rounding.{roundedProduct};
+ghost use Rattle.math.specs.Steps.{UpTo};
 ghost use Rattle.params.specs.Limits.{limitOf};
 
 // round(setting * xheight), where that is not below 0.

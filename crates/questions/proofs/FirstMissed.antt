@@ -1,5 +1,4 @@
 -- Why a run of tests that returns at the first "no" computes `firstMissed`, and what is known once it gives 0.
--- Assumes nothing.
 use Prim.Native.Nat.{ℕ, zero, suc}
 use mathlib.Core.Path.{_≡_, refl, subst, _∙_}
 use mathlib.Core.Bool.{Bool, true, false, cond, _&&_}

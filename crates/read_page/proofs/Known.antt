@@ -7,21 +7,23 @@ use lib.ListN.{length}
 use Rattle.lists.proofs.Every.{and-first, and-second}
 use Rattle.questions.specs.Questions.{firstMissed}
 use Rattle.questions.proofs.FirstMissed.{all-yes, none-missed}
-use Rattle.rects.specs.Rects.{count, countFits, allInside, AllInside}
+use Rattle.rects.specs.Rects.{count, countFits, allInside}
+use Rattle.rects.specs.Steps.{AllInside}
 use Rattle.rects.proofs.Questions.{count-says, all-inside-says}
 use Rattle.layout.specs.Sides.{rasterFits}
-use Rattle.layout.specs.Tables.{tablesLong, Sheared}
+use Rattle.layout.specs.Tables.{tablesLong}
+use Rattle.layout.specs.Steps.{Sheared}
 use Rattle.layout.proofs.Answers.{SidesAre, sides-yes, raster-yes, sheared-yes}
 use Rattle.params.specs.Scan.{dpiGiven, xheightInRange, xheightQuestions}
 use Rattle.params.specs.Settings.{settingsQuestions}
-use Rattle.params.specs.Settled.{Settled}
+use Rattle.params.specs.Steps.{SettingsPassed}
 use Rattle.params.proofs.Passed.{settings-passed}
 use Rattle.page.specs.Page.{Page}
 use Rattle.page.specs.Questions.{givenQuestions}
 
 pub record Known (g : Page) : Type 0 where
   pub sides : SidesAre (g .sides)
-  pub settled : Settled (g .settings) (g .xheight)
+  pub settled : SettingsPassed (g .settings) (g .xheight)
   pub sheared : Sheared (g .sides) (g .shear) (g .shear-x)
   pub grey : length (g .gray) ≡ g .sides .pw * g .sides .ph
   pub ink : length (g .ink) ≡ g .sides .w * g .sides .h
@@ -41,7 +43,7 @@ known g z =
     let q5 = y .1 .1 .1 .1 .0 in
     let q6 = y .1 .1 .1 .1 .1 .0 in
     let v = y .1 .1 .1 .1 .1 .1 in
-    let S : Settled (g .settings) (g .xheight) = record {
+    let S : SettingsPassed (g .settings) (g .xheight) = record {
       settings = none-missed (settingsQuestions (g .settings)) (v .0, (v .1 .0, (v .1 .1 .0, (v .1 .1 .1 .0, (v .1 .1 .1 .1 .0, (v .1 .1 .1 .1 .1 .1 .0, tt))))));
       xheight-passed = none-missed (xheightQuestions (g .xheight)) (and-second (dpiGiven (g .dpi)) (xheightInRange (g .xheight)) (y .1 .0), tt);
     } in

@@ -5,9 +5,10 @@ use Prim.Native.Nat.{ℕ, _*_, _≤_}
 use native.Mathlib.Omega.{arith}
 use lib.Ieee.{Float}
 use lib.ListN.{length, take}
-use Rattle.rects.specs.Rects.{count, AllInside}
+use Rattle.rects.specs.Rects.{count}
+use Rattle.rects.specs.Steps.{AllInside}
 use Rattle.params.specs.Limits.{alignLimit}
-use Rattle.params.specs.Settled.{Settled}
+use Rattle.params.specs.Steps.{SettingsPassed}
 use Rattle.boxes.specs.Limits.{limitsOf}
 use Rattle.boxes.specs.Steps as Boxes
 use Rattle.boxes.proofs.Accepted.{ready}
@@ -63,7 +64,7 @@ module _ (g : Page) (K : Known g) (l : MarkLists) (Q : MarkRoom (count (g .glyph
     coverages-still = still (Page.coverages g) (l .coverages) (M .coverages) (omega (arith, Boxed.coverages-long g (K .few-glyphs) few picture (M .below-8192), few, Q .coverages))
 
     pub grids-ready : {m e re nu pa wo : List ℕ} → m ≡ l .members → e ≡ l .ends → re ≡ l .reading → nu ≡ l .numbers → pa ≡ l .parents → wo ≡ l .order
-        → Settled (g .settings) (g .xheight) × (4 * n ≤ length b) × Grids.PassedBoxes (take (4 * n) b)
+        → SettingsPassed (g .settings) (g .xheight) × (4 * n ≤ length b) × Grids.PassedBoxes (take (4 * n) b)
         × Grids.Roomy n (record { members = m; ends = e; reading = re; numbers = nu; parents = pa; work = wo; keys = l .keys })
     grids-ready em ee er en ep ew = (
       K .settled,

@@ -12,9 +12,9 @@ use Rattle.sets.specs.Listing.{endsFrom, ReadAs}
 use Rattle.rects.specs.Rects.{count}
 use Rattle.layout.specs.Steps as Layout
 use Rattle.layout.proofs.Levelling.{levelled-is}
-use Rattle.params.specs.Settled.{Settled}
+use Rattle.params.specs.Steps.{SettingsPassed}
 use Rattle.segments.specs.Steps as Segments
-use Rattle.segments.specs.Printed.{SplitByContrast}
+use Rattle.segments.specs.Steps.{SplitByContrast}
 use Rattle.meeting.specs.Steps as Meeting
 use Rattle.tables.specs.Steps as Tables
 use Rattle.stages.specs.Steps.{PartsLong}
@@ -47,7 +47,7 @@ module _ (g : Page) (K : Known g) (l : RuleLists) (Q : RuleRoom (g .sides .w) (g
   raster-long = levelled-is (g .sides) (g .shear) (g .shear-x) (K .sheared) (g .gray) .long
 
   pub rulings-ready : {lev : List ℕ} → lev ≡ Page.raster g
-      → Settled (g .settings) (g .xheight)
+      → SettingsPassed (g .settings) (g .xheight)
       × Segments.Ready lev w h (g .pieces) (l .rects) (l .directions) (l .contrasts) (l .piece-members) (l .piece-ends) (l .parents) (l .listed) (l .listed-ends) (l .order) (l .keys)
   rulings-ready e = (
     K .settled,
@@ -142,7 +142,7 @@ module _ (g : Page) (K : Known g) (l : RuleLists) (Q : RuleRoom (g .sides .w) (g
       faint-still = still (Page.faint g) (l .faint) (S .faint) (omega (arith, both, few, Q .faint))
 
       pub tables-ready : {m e fr pa wo ke : List ℕ} {sh : List Float} → m ≡ l .printed-members → e ≡ l .printed-ends → sh ≡ l .shares → fr ≡ l .free → length pa ≡ length (l .parents) → length wo ≡ length (l .order) → length ke ≡ length (l .keys)
-          → Settled (g .settings) (g .xheight) × PartsLong n a r d p × Meeting.Given (take (4 * n) r) (take n d) (take a p)
+          → SettingsPassed (g .settings) (g .xheight) × PartsLong n a r d p × Meeting.Given (take (4 * n) r) (take n d) (take a p)
           × Tables.Roomy a
           (record { members = m; ends = e; numbers = l .numbers; bounds = l .bounds; rows = l .rows; columns = l .columns; rulings = l .rulings; shares = sh; free = fr; parents = pa; work = wo; keys = ke })
       tables-ready em ee es ef lp lw lk = (

@@ -5,7 +5,8 @@ use Prim.Native.Nat.{ℕ, _≤_}
 use lib.ListN.{length}
 use Rattle.sets.specs.Listing.{ReadAs}
 use Rattle.questions.specs.Questions.{firstMissed}
-use Rattle.rects.specs.Rects.{count, AllInside}
+use Rattle.rects.specs.Rects.{count}
+use Rattle.rects.specs.Steps.{AllInside}
 use Rattle.segments.specs.Call.{AllNear}
 use Rattle.grids.specs.Reading.{readingOrder}
 use Rattle.page.specs.declared.counts.Counts.{Counts}

@@ -1,4 +1,4 @@
--- Why `around` is the smallest rectangle: a union holds both its parts and lies inside whatever does. Assumes nothing.
+-- Why `around` is the smallest rectangle: a union holds both its parts and lies inside whatever does.
 use mathlib.Core.Path.{_≡_, refl, sym, ap, _∙_, subst}
 use mathlib.Core.Logic.{inl, inr}
 use mathlib.Core.List.{List, [], _∷_, List·Memᴰ·cases-cons, List·Memᴰ·not-nil, List·Memᴰ, List·Memᴰ·head, List·Memᴰ·tail}
@@ -11,7 +11,8 @@ use lib.Seq.{drop-cons}
 use Rattle.lists.specs.Lists.{In}
 use Rattle.lists.proofs.Keep.{at-in}
 use Rattle.rects.specs.declared.Rect.{Rect}
-use Rattle.rects.specs.Rects.{rectAt, Inside}
+use Rattle.rects.specs.Rects.{rectAt}
+use Rattle.rects.specs.Steps.{Inside}
 use Rattle.rects.specs.Around.{Holds, HoldsAll, Smallest, unionOf, unioned, around}
 
 holds-trans : (a b c : Rect) → Holds a b → Holds b c → Holds a c

@@ -1,4 +1,4 @@
--- What questions 5 and 6 say once they are answered yes. Assumes nothing.
+-- What questions 5 and 6 say once they are answered yes.
 use mathlib.Core.Path.{_≡_}
 use mathlib.Core.Bool.{Bool, true, _&&_}
 use mathlib.Core.List.{List}
@@ -9,7 +9,7 @@ use lib.ListN.{length}
 use borrow.Author.Tests.{leb-true, ltb-true, eqb-true}
 use Rattle.lists.proofs.Every.{and-first, and-second, every-at}
 use Rattle.rects.specs.declared.Rect.{Rect}
-pub use Rattle.rects.specs.Rects.{Inside}
+pub use Rattle.rects.specs.Steps.{Inside}
 use Rattle.rects.specs.Rects.{count, rectAt, inside, countFits, allInside}
 
 pub inside-says : (w h : ℕ) (r : Rect) → inside w h r ≡ true → Inside w h r

@@ -1,7 +1,6 @@
 -- Document 01's smallest rectangle around a set: it holds all its members and lies inside every other rectangle that does.
-use Prim.Native.Nat.{ℕ, _+_, _*_, _≤_, min, max}
+use Prim.Native.Nat.{ℕ, _≤_, min, max}
 use mathlib.Core.List.{List, [], _∷_}
-use lib.ListN.{length}
 use Rattle.lists.specs.Lists.{In}
 use Rattle.rects.specs.declared.Rect.{Rect}
 use Rattle.rects.specs.Rects.{rectAt}
@@ -36,7 +35,3 @@ unfoldable pub around : List ℕ → List ℕ → Rect
 unfolding unioned
 around rects [] = rectAt [] 0
 around rects (k ∷ ks) = unioned rects (rectAt rects k) ks
-
--- Each place has its rectangle in the list.
-abbrev pub Places : List ℕ → List ℕ → Type 0
-Places rects places = (k : ℕ) → In places k → 4 * k + 4 ≤ length rects

@@ -1,5 +1,5 @@
 -- Rectangles, x0, y0, x1, y1, both ends inside, and lists of them: four numbers each.
-use Prim.Native.Nat.{ℕ, _+_, _-_, _*_, _/_, _%_, _≤_, _<_}
+use Prim.Native.Nat.{ℕ, _+_, _-_, _*_, _/_, _%_}
 use mathlib.Core.Bool.{Bool, _&&_}
 use mathlib.Core.List.{List, [], _∷_}
 use lib.Dec.{leb, ltb, eqb}
@@ -28,17 +28,6 @@ numbersOf r = r .x0 ∷ r .y0 ∷ r .x1 ∷ r .y1 ∷ []
 -- Ordered, and inside a picture of w columns and h rows.
 abbrev pub inside : ℕ → ℕ → Rect → Bool
 inside w h r = leb (r .x0) (r .x1) && leb (r .y0) (r .y1) && ltb (r .x1) w && ltb (r .y1) h
-
--- The same as plain facts.
-pub record Inside (w h : ℕ) (r : Rect) : Type 0 where
-  pub wide : r .x0 ≤ r .x1
-  pub high : r .y0 ≤ r .y1
-  pub right : r .x1 < w
-  pub bottom : r .y1 < h
-
--- Every rectangle of a list lies so.
-abbrev pub AllInside : ℕ → ℕ → List ℕ → Type 0
-AllInside w h rects = (k : ℕ) → k < count rects → Inside w h (rectAt rects k)
 
 -- Question 5: at most so many rectangles, and a whole number of them.
 abbrev pub countFits : ℕ → List ℕ → Bool

@@ -4,7 +4,8 @@ ghost use Prim.Native.Nat.{ℕ, _+_, _*_, _^_, _<_, _≤_};
 ghost use lib.ListN.{length, getD};
 ghost use lib.Seq.{sets};
 ghost use Rattle.rects.specs.Rects.{widthOf, heightOf, rectAt, numbersOf, inside, countFits, allInside};
-ghost use Rattle.rects.specs.Around.{unionOf, unioned, around, Places};
+ghost use Rattle.rects.specs.Around.{unionOf, unioned, around};
+ghost use Rattle.rects.specs.Steps.{Places};
 
 // Both ends are inside.
 #[repr(C)]

@@ -11,7 +11,8 @@ use lib.ListN.{length, getD, length-map}
 use Rattle.lists.specs.Lists.{one}
 use Rattle.lists.proofs.Sizes.{keep-size-le}
 use Rattle.sets.proofs.Sizes as Sizes
-use Rattle.rects.specs.Rects.{count, AllInside}
+use Rattle.rects.specs.Rects.{count}
+use Rattle.rects.specs.Steps.{AllInside}
 use Rattle.rects.specs.Around.{around}
 use Rattle.params.specs.Limits.{acrossLimit, gapLimit}
 use Rattle.pieces.specs.Pieces.{touch}

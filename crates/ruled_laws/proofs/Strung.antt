@@ -7,7 +7,8 @@ use native.Mathlib.Omega.{arith}
 use lib.ListN.{length, getD}
 use Rattle.lists.specs.Lists.{In, concat}
 use Rattle.rects.specs.declared.Rect.{Rect}
-use Rattle.rects.specs.Rects.{rectAt, numbersOf, Inside, AllInside}
+use Rattle.rects.specs.Rects.{rectAt, numbersOf}
+use Rattle.rects.specs.Steps.{Inside, AllInside}
 use Rattle.rects.proofs.Questions.{has-numbers}
 
 module _ {A : Type 0} (f : A → Rect) where

@@ -14,7 +14,8 @@ use Rattle.sets.proofs.Ascending.{ascending-below, sublist}
 use Rattle.sets.proofs.Grown.{closedSets-listed}
 use Rattle.lines.specs.Lines.{inOrder}
 use Rattle.lines.proofs.Sorted.{lines-few}
-use Rattle.rects.specs.Rects.{count, rectAt, Inside, AllInside}
+use Rattle.rects.specs.Rects.{count, rectAt}
+use Rattle.rects.specs.Steps.{Inside, AllInside}
 use Rattle.rects.specs.Around.{around}
 use Rattle.rects.proofs.Around.{around-inside}
 use Rattle.meeting.specs.declared.segment.Segment.{Segment}

@@ -7,7 +7,7 @@ use Prim.Native.Nat.{ℕ, zero, suc, _≤_, _<_}
 use lib.ListN.{length, getD}
 use Rattle.lists.specs.Lists.{concat}
 use Rattle.sets.specs.Closed.{Below, Ascending, nothing, before, Chain, here}
-use Rattle.sets.specs.Joins.{Represents}
+use Rattle.sets.specs.Steps.{Represents}
 use Rattle.sets.specs.Listing.{grown, closedSet, closedSets}
 use Rattle.sets.proofs.Ascending.{ascending-below, ascending-keep, ascending-same, first-least}
 use Rattle.sets.proofs.Chains.{chain-append, chain-back, chain-last, chain-step}

@@ -14,7 +14,7 @@ use Rattle.rects.proofs.Questions.{count-says, all-inside-says}
 use Rattle.layout.proofs.Answers.{sides-say}
 use Rattle.params.specs.Scan.{xheightQuestions}
 use Rattle.params.specs.Settings.{settingsQuestions}
-use Rattle.params.specs.Settled.{Settled}
+use Rattle.params.specs.Steps.{SettingsPassed}
 use Rattle.segments.specs.Call.{Given, Lent, hasRoom, questions}
 use Rattle.segments.specs.Steps.{inputQuestions, answersFit, workFits, WorkRoom, Ready}
 
@@ -82,7 +82,7 @@ module _ (g : Given) (l : Lent) where
   asked e = e ∙ ap (λ (b : Bool). firstMissed (inputQuestions (g .w) (g .h) (g .xheight) (g .pieces) (g .settings) ++ (14, b) ∷ [])) room-is
 
   -- what the questions say of the settings
-  pub settled : firstMissed (questions g l) ≡ 0 → Settled (g .settings) (g .xheight)
+  pub settled : firstMissed (questions g l) ≡ 0 → SettingsPassed (g .settings) (g .xheight)
   settled none =
       let y = all-yes (questions g l) tt none in
       record {

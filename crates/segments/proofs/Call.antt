@@ -11,7 +11,7 @@ use Rattle.lists.proofs.Written.{written-at}
 use Rattle.params.specs.Limits.{acrossLimit, gapLimit}
 use Rattle.params.proofs.Limits.{limits}
 use Rattle.questions.specs.Questions.{firstMissed}
-use Rattle.segments.specs.Rulings.{rulingSets, rulingOf, contrastsOf}
+use Rattle.segments.specs.Rulings.{orderedSets, rulingOf, contrastsOf}
 use Rattle.segments.specs.Call.{Given, Lent, questions, allSets, accepted, refusal, Segments}
 use Rattle.segments.specs.Steps.{Ready, Made}
 use Rattle.segments.proofs.Accepted.{settled}
@@ -22,13 +22,13 @@ module _ (g : Given) (l : Lent) {q : ℕ} (asked : q ≡ firstMissed (questions 
   pub passed : (l′ : Lent) {across gap r : ℕ} → q ≡ 0
       → Ready (g .raster) (g .w) (g .h) (g .pieces) (l .rects) (l .directions) (l .contrasts) (l .piece-members) (l .piece-ends) (l .parents) (l .listed) (l .listed-ends) (l .work) (l .keys)
       → across ≡ acrossLimit (g .settings) (g .xheight) → gap ≡ gapLimit (g .settings) (g .xheight)
-      → Made (g .raster) (g .w) (g .h) (g .pieces) (rulingSets (g .pieces) across gap) (l .rects) (l .directions) (l .contrasts) (l .piece-members) (l .piece-ends)
+      → Made (g .raster) (g .w) (g .h) (g .pieces) (orderedSets (g .pieces) across gap) (l .rects) (l .directions) (l .contrasts) (l .piece-members) (l .piece-ends)
       (l′ .rects) (l′ .directions) (l′ .contrasts) (l′ .piece-members) (l′ .piece-ends) r
       → Segments g l l′ (record { number = 0; count = r })
   passed l′ {r = r} z R a b made =
       let M = subst (λ (ss : List (List ℕ)).
       Made (g .raster) (g .w) (g .h) (g .pieces) ss (l .rects) (l .directions) (l .contrasts) (l .piece-members) (l .piece-ends)
-      (l′ .rects) (l′ .directions) (l′ .contrasts) (l′ .piece-members) (l′ .piece-ends) r) (ap₂ (rulingSets (g .pieces)) a b) made in
+      (l′ .rects) (l′ .directions) (l′ .contrasts) (l′ .piece-members) (l′ .piece-ends) r) (ap₂ (orderedSets (g .pieces)) a b) made in
       let L = limits (g .settings) (g .xheight) (settled g l (sym asked ∙ z)) in
       let contrast : List ℕ → Float = λ s. rulingOf (g .raster) (g .w) (g .h) (g .pieces) s .contrast in
       let across = acrossLimit (g .settings) (g .xheight) in

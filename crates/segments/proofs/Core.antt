@@ -13,7 +13,7 @@ use Rattle.sets.specs.Closed.{Below, Listed}
 use Rattle.sets.specs.Listing.{membersOf, endsFrom, ReadAs}
 use Rattle.sets.proofs.Listings.{read-as}
 use Rattle.pieces.specs.Pieces.{Touch}
-use Rattle.segments.specs.Rulings.{pieceSets, keysOf, rulingSets}
+use Rattle.segments.specs.Rulings.{pieceSets, keysOf, orderedSets}
 use Rattle.segments.specs.Steps.{Parts, partsOf, inOrder, Strung, RoomForSets, Described, RoomForRulings, SetsListed, SetsOrdered, Made}
 use Rattle.segments.proofs.Parts.{parts-are, part-is, order-is}
 use Rattle.segments.proofs.Demand.{pieces-listed, rulings-listed, rulings-long, rulings-size, keys-long}
@@ -42,13 +42,13 @@ module _ (pieces : List ℕ) (across gap : ℕ) {ls le ls′ le′ : List ℕ} {
   pub small-count : count pieces ≤ 4096 → r < 2 ^ 32
   small-count h = omega (arith, few-sets)
 
-  long : r ≡ length (rulingSets pieces across gap)
+  long : r ≡ length (orderedSets pieces across gap)
   long = L .count ∙ sym (rulings-long pieces across gap)
 
-  fits : {k : ℕ} → count pieces ≤ k → length (concat (rulingSets pieces across gap)) ≤ k
+  fits : {k : ℕ} → count pieces ≤ k → length (concat (orderedSets pieces across gap)) ≤ k
   fits h = omega (arith, rulings-size pieces across gap, L .within)
 
-  few : {k : ℕ} → count pieces ≤ k → length (rulingSets pieces across gap) ≤ k
+  few : {k : ℕ} → count pieces ≤ k → length (orderedSets pieces across gap) ≤ k
   few h = omega (arith, long, few-sets)
 
   pub rulings-room : {rs ds : List ℕ} {cs : List Float} → RoomForRulings (count pieces) rs ds cs → RoomForRulings r rs ds cs
@@ -66,8 +66,8 @@ module _ (pieces : List ℕ) (across gap : ℕ) {ls le ls′ le′ : List ℕ} {
         listing-parts pieces (pieceSets pieces across gap) ls le (pieces-listed pieces across gap) listed-room listed-ends-room (L .strung .members) (L .strung .ends) (L .count)
 
     module _ {o order : List ℕ} (sorted : SetsOrdered pieces ls′ le′ r o order) where
-      in-order : inOrder ls′ le′ r order ≡ rulingSets pieces across gap
-      unfolding rulingSets
+      in-order : inOrder ls′ le′ r order ≡ orderedSets pieces across gap
+      unfolding orderedSets
       in-order =
           let ss = pieceSets pieces across gap in
           let ks = sortedIndexes (keysOf pieces ss) in
@@ -80,22 +80,22 @@ module _ (pieces : List ℕ) (across gap : ℕ) {ls le ls′ le′ : List ℕ} {
       sets-room {ms} {es} h m e =
           subst (λ (ss : List (List ℕ)). RoomForSets ss ms es) (sym in-order) (record { members = fits m; ends = few e; small = omega (arith, fits h) })
 
-      pub sets-strung : {ms es ms′ es′ : List ℕ} → Strung (inOrder ls′ le′ r order) ms es ms′ es′ → Strung (rulingSets pieces across gap) ms es ms′ es′
+      pub sets-strung : {ms es ms′ es′ : List ℕ} → Strung (inOrder ls′ le′ r order) ms es ms′ es′ → Strung (orderedSets pieces across gap) ms es ms′ es′
       sets-strung {ms} {es} {ms′} {es′} S = subst (λ (ss : List (List ℕ)). Strung ss ms es ms′ es′) in-order S
 
-  module _ {ms es ms′ es′ : List ℕ} (S : Strung (rulingSets pieces across gap) ms es ms′ es′) (room : count pieces ≤ length ms) (ends : count pieces ≤ length es) where
+  module _ {ms es ms′ es′ : List ℕ} (S : Strung (orderedSets pieces across gap) ms es ms′ es′) (room : count pieces ≤ length ms) (ends : count pieces ≤ length es) where
     pub strung-parts : Parts pieces ms′ es′ r
-    strung-parts = listing-parts pieces (rulingSets pieces across gap) ms es (rulings-listed pieces across gap) (fits room) (few ends) (S .members) (S .ends) long
+    strung-parts = listing-parts pieces (orderedSets pieces across gap) ms es (rulings-listed pieces across gap) (fits room) (few ends) (S .members) (S .ends) long
 
     pub made : {raster : List ℕ} {w h : ℕ} {rs ds rs′ ds′ : List ℕ} {cs cs′ : List Float} → Described raster w h pieces (partsOf ms′ es′ r) rs ds cs rs′ ds′ cs′
-        → Made raster w h pieces (rulingSets pieces across gap) rs ds cs ms es rs′ ds′ cs′ ms′ es′ r
+        → Made raster w h pieces (orderedSets pieces across gap) rs ds cs ms es rs′ ds′ cs′ ms′ es′ r
     made {raster} {w} {h} {rs} {ds} {rs′} {ds′} {cs} {cs′} D =
         record {
           few = few-sets;
           count = long;
           described =
               subst (λ (ss : List (List ℕ)). Described raster w h pieces ss rs ds cs rs′ ds′ cs′)
-              (parts-are (rulingSets pieces across gap) ms es (fits room) (few ends) (S .members) (S .ends) long) D;
+              (parts-are (orderedSets pieces across gap) ms es (fits room) (few ends) (S .members) (S .ends) long) D;
           strung = S;
-          read = listing-read (rulingSets pieces across gap) ms es (fits room) (few ends) (S .members) (S .ends) long;
+          read = listing-read (orderedSets pieces across gap) ms es (fits room) (few ends) (S .members) (S .ends) long;
         }

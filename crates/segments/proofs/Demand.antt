@@ -18,12 +18,12 @@ use Rattle.sets.proofs.Grown.{closedSets-listed}
 use Rattle.sets.proofs.Reordered.{listed-ordered}
 use Rattle.order.specs.Order.{keyAt, Before, Sorted, sortedIndexes}
 use Rattle.order.proofs.Computed.{sorted-by, sorted-length}
-use Rattle.rects.specs.Rects.{count, rectAt, AllInside}
+use Rattle.rects.specs.Rects.{count, rectAt}
+use Rattle.rects.specs.Steps.{AllInside, Inside}
 use Rattle.rects.specs.Around.{around}
 use Rattle.rects.proofs.Around.{around-smallest, around-inside}
-use Rattle.rects.specs.Rects.{Inside}
 use Rattle.pieces.specs.Pieces.{horizontal, touch, Touch}
-use Rattle.segments.specs.Rulings.{pieceSets, keyOf, keysOf, rulingSets, directionOf, directionNumber, StandsBefore}
+use Rattle.segments.specs.Rulings.{pieceSets, keyOf, keysOf, orderedSets, directionOf, directionNumber, StandsBefore}
 use Rattle.segments.specs.Call.{Demand3, InOrder}
 use Rattle.pieces.proofs.Touching.{touching-agrees}
 use Rattle.segments.proofs.Order.{key-orders, key-tells, size-sorted}
@@ -68,19 +68,19 @@ module _ (pieces : List ℕ) (across gap : ℕ) where
   pub pieces-listed : Listed (Below (count pieces)) (Touch pieces across gap) ss
   pieces-listed = closedSets-listed (count pieces) (touch pieces across gap)
 
-  pub rulings-long : length (rulingSets pieces across gap) ≡ length ss
-  unfolding rulingSets
+  pub rulings-long : length (orderedSets pieces across gap) ≡ length ss
+  unfolding orderedSets
   rulings-long = length-map order (λ k. getD ss k []) ∙ order-long
 
   -- the same members, in another order
-  pub rulings-size : length (concat (rulingSets pieces across gap)) ≡ length (concat ss)
-  unfolding rulingSets
+  pub rulings-size : length (concat (orderedSets pieces across gap)) ≡ length (concat ss)
+  unfolding orderedSets
   rulings-size =
       size-sorted (λ k. getD ss k []) (keyAt keys) (length keys)
       ∙ ap (λ (n : ℕ). length (concat (map (λ k. getD ss k []) (below n)))) keys-long ∙ ap (λ (t : List (List ℕ)). length (concat t)) (by-place ss [])
 
-  pub rulings-listed : Listed (Below (count pieces)) (Touch pieces across gap) (rulingSets pieces across gap)
-  unfolding rulingSets
+  pub rulings-listed : Listed (Below (count pieces)) (Touch pieces across gap) (orderedSets pieces across gap)
+  unfolding orderedSets
   rulings-listed =
       listed-ordered pieces-listed order (λ k h. rw (← keys-long) (sorted .within k (short k h)))
       (λ k l h g e. let o = sorted .once (getD order k 0) (sorted .within k (short k h)) in o .3 k (short k h) refl ∙ sym (o .3 l (short l g) (sym e)))
@@ -89,7 +89,7 @@ module _ (pieces : List ℕ) (across gap : ℕ) where
       short : (k : ℕ) → k < length order → k < length keys
       short k h = rw (sorted .full) at h
 
-  rulings-closed : (k : ℕ) → k < length (rulingSets pieces across gap) → Closed (Below (count pieces)) (Touch pieces across gap) (getD (rulingSets pieces across gap) k [])
+  rulings-closed : (k : ℕ) → k < length (orderedSets pieces across gap) → Closed (Below (count pieces)) (Touch pieces across gap) (getD (orderedSets pieces across gap) k [])
   rulings-closed = rulings-listed .closed
 
   -- the members of a set have one direction
@@ -100,8 +100,8 @@ module _ (pieces : List ℕ) (across gap : ℕ) where
       (C .joined i (getD s 0 0) m (at-in s 0 (C .nonempty))))
 
   -- the set that ruling k is made from
-  from-order : (k : ℕ) → k < length order → getD (rulingSets pieces across gap) k [] ≡ getD ss (getD order k 0) []
-  unfolding rulingSets
+  from-order : (k : ℕ) → k < length order → getD (orderedSets pieces across gap) k [] ≡ getD ss (getD order k 0) []
+  unfolding orderedSets
   from-order k h = getD-map (λ m. getD ss m []) order k [] h
 
   key-at : (a : ℕ) → a < length ss → keyAt keys a ≡ keyOf (around pieces (getD ss a []))
@@ -116,7 +116,7 @@ module _ (pieces : List ℕ) (across gap : ℕ) where
     stands a b ha hb (inr e) =
         inr (key-tells (set-inside a ha) (set-inside b hb) (sym (key-at a ha) ∙ e .0 ∙ key-at b hb), closedSets-ascend (count pieces) (touch pieces across gap) a b (e .1) hb)
 
-    pub in-order : InOrder pieces (rulingSets pieces across gap)
+    pub in-order : InOrder pieces (orderedSets pieces across gap)
     in-order k l h g =
         let n : length keys ≡ length ss = keys-long in
         let lo : l < length order = omega (arith, order-long, rulings-long) in
@@ -124,10 +124,10 @@ module _ (pieces : List ℕ) (across gap : ℕ) where
         rw (from-order k (omega arith), from-order l lo)
         (stands (getD order k 0) (getD order l 0) (rw (← keys-long) (sorted .within k (omega arith))) (rw (← keys-long) (sorted .within l lk)) (sorted .ascends k l h lk))
 
-  pub demand : Demand3 pieces across gap (rulingSets pieces across gap)
+  pub demand : Demand3 pieces across gap (orderedSets pieces across gap)
   demand =
       record {
         listed = rulings-listed;
-        smallest = λ k h. around-smallest pieces (getD (rulingSets pieces across gap) k []) (rulings-closed k h .nonempty);
+        smallest = λ k h. around-smallest pieces (getD (orderedSets pieces across gap) k []) (rulings-closed k h .nonempty);
         direction = λ k i h m. one-direction (rulings-closed k h) i m;
       }

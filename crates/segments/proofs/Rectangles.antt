@@ -5,8 +5,9 @@ use native.Mathlib.Omega.{arith}
 use lib.ListN.{length}
 use Rattle.lists.specs.Lists.{In}
 use Rattle.rects.specs.declared.Rect.{Rect}
-use Rattle.rects.specs.Rects.{count, AllInside}
-use Rattle.rects.specs.Around.{around, Places}
+use Rattle.rects.specs.Rects.{count}
+use Rattle.rects.specs.Steps.{AllInside, Places}
+use Rattle.rects.specs.Around.{around}
 use Rattle.rects.proofs.Around.{around-inside}
 use Rattle.rects.proofs.Questions.{Inside, has-numbers}
 use Rattle.pieces.specs.Steps.{Ordered, AllOrdered}

@@ -19,7 +19,7 @@ use Rattle.params.specs.Settings.{settingsQuestions}
 use Rattle.params.specs.Limits.{IsLimit, acrossLimit, gapLimit}
 use Rattle.pieces.specs.Pieces.{horizontal, Touch}
 use Rattle.segments.specs.declared.segments.Answer.{Answer}
-use Rattle.segments.specs.Rulings.{rulingSets, directionOf, Near, rectanglesOf, directionsOf, contrastsOf, StandsBefore}
+use Rattle.segments.specs.Rulings.{orderedSets, directionOf, Near, rectanglesOf, directionsOf, contrastsOf, StandsBefore}
 
 -- What the call is given: the levelled raster and its sides, the x-height, the settings and the rule pieces.
 pub record Given : Type 0 where
@@ -73,7 +73,7 @@ questions g l =
 
 -- The sets of pieces in the order of their rulings, with the limits that the settings and the x-height give.
 abbrev pub setsOf : Float → List ℕ → RulingsParams → List (List ℕ)
-setsOf xheight pieces p = rulingSets pieces (acrossLimit p xheight) (gapLimit p xheight)
+setsOf xheight pieces p = orderedSets pieces (acrossLimit p xheight) (gapLimit p xheight)
 
 -- Those of what is given.
 abbrev pub allSets : Given → List (List ℕ)

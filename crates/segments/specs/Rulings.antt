@@ -29,8 +29,8 @@ abbrev pub keysOf : List ℕ → List (List ℕ) → List ℕ
 keysOf pieces ss = map (λ s. keyOf (around pieces s)) ss
 
 -- The sets of pieces in the order of their rulings: by key, and equal keys by smallest piece index, since so `pieceSets` has them.
-unfoldable pub rulingSets : List ℕ → ℕ → ℕ → List (List ℕ)
-rulingSets pieces across gap =
+unfoldable pub orderedSets : List ℕ → ℕ → ℕ → List (List ℕ)
+orderedSets pieces across gap =
     let ss = pieceSets pieces across gap in map (λ k. getD ss k []) (sortedIndexes (keysOf pieces ss))
 
 -- The direction of a set of pieces: that of its first one, and so of each (`Demand3`'s field `direction`).

@@ -1,23 +1,32 @@
 -- What the functions under `segments` say to each other; none of it is needed to read the call's contract.
-use Prim.Native.Nat.{ℕ, _+_, _*_, _^_, _≤_, _<_}
 use mathlib.Core.Path.{_≡_}
 use mathlib.Core.Bool.{Bool, _&&_}
 use mathlib.Core.List.{List, [], _∷_, map}
-use lib.Dec.{leb, eqb}
-use lib.Ieee.{Float}
+use Prim.Native.Nat.{ℕ, _+_, _*_, _^_, _≤_, _<_}
+use lib.Ieee.{Float, le}
 use lib.ListN.{length, getD}
+use Rattle.lists.specs.Lists.{below, written, In, concat}
+use Rattle.params.specs.declared.settings.RulingsParams.{RulingsParams}
+use Rattle.segments.specs.Printed.{printed, printedPlaces, faintPlaces}
+use lib.Dec.{leb, eqb}
 use lib.Seq.{sets}
-use Rattle.lists.specs.Lists.{In, below, concat, written}
 use Rattle.sets.specs.Listing.{membersOf, endsFrom, ReadAs}
 use Rattle.order.specs.Order.{sortedIndexes}
 use Rattle.questions.specs.Questions.{Question}
-use Rattle.rects.specs.Rects.{count, AllInside, countFits, allInside}
+use Rattle.rects.specs.Rects.{count, countFits, allInside}
+use Rattle.rects.specs.Steps.{AllInside}
 use Rattle.layout.specs.Sides.{levelledSidesFit}
-use Rattle.params.specs.declared.settings.RulingsParams.{RulingsParams}
 use Rattle.params.specs.Scan.{xheightInRange}
 use Rattle.params.specs.Settings.{settingsQuestions}
 use Rattle.segments.specs.declared.ruling.Ruling.{Ruling}
 use Rattle.segments.specs.Rulings.{keysOf, rulingOf, Near, rectanglesOf, directionsOf, contrastsOf}
+
+-- What `split` leaves: both lists of places from the front, and their counts.
+pub record SplitByContrast (p : RulingsParams) (contrasts : List Float) (ps fs ps′ fs′ : List ℕ) (a b : ℕ) : Type 0 where
+  pub printed-count : a ≡ length (printedPlaces p contrasts)
+  pub faint-count : b ≡ length (faintPlaces p contrasts)
+  pub printed-list : ps′ ≡ written (printedPlaces p contrasts) ps
+  pub faint-list : fs′ ≡ written (faintPlaces p contrasts) fs
 
 -- The call's questions before 14.
 abbrev pub inputQuestions : ℕ → ℕ → Float → List ℕ → RulingsParams → List Question

@@ -4,7 +4,7 @@ ghost use Prim.Native.Nat.{_≤_, _<_, _^_};
 ghost use lib.ListN.{length, take};
 ghost use Rattle.lists.specs.Lists.{written};
 ghost use Rattle.order.specs.Order.{sortedIndexes};
-ghost use Rattle.rects.specs.Rects.{Inside, AllInside};
+ghost use Rattle.rects.specs.Steps.{Inside, AllInside};
 ghost use Rattle.segments.specs.Rulings.{keyOf, keysOf};
 ghost use Rattle.segments.specs.Steps.{Parts, partsOf};
 use rects::Rect;

@@ -2,8 +2,8 @@
 ghost use mathlib.Core.Path.{_≡_};
 ghost use Prim.Native.Nat.{_≤_};
 ghost use lib.ListN.{length};
-ghost use Rattle.segments.specs.Printed.{printed, SplitByContrast};
-ghost use Rattle.segments.specs.Steps.{RoomForPlaces};
+ghost use Rattle.segments.specs.Printed.{printed};
+ghost use Rattle.segments.specs.Steps.{SplitByContrast, RoomForPlaces};
 use params::settings::RulingsParams;
 
 // Printed rulings are dark enough; the others are faint.

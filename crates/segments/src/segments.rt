@@ -1,5 +1,5 @@
 // The call: pieces to rulings.
-ghost use Rattle.segments.specs.Rulings.{rulingSets};
+ghost use Rattle.segments.specs.Rulings.{orderedSets};
 ghost use Rattle.segments.specs.Call.{Segments};
 ghost use Rattle.segments.specs.Steps.{Ready, Made};
 use params::settings::RulingsParams;
@@ -33,7 +33,7 @@ pub fn rulings(
     requires { ⌜ Ready (now raster) w h (now pieces) (now rects) (now directions) (now contrasts)
         (now members) (now ends) (now parents) (now listed) (now «listed_ends») (now work) (now keys) ⌝ }
     ensures { λ r.
-        ⌜ Made (now (raster .entry)) w h (now (pieces .entry)) (rulingSets (now (pieces .entry)) across gap)
+        ⌜ Made (now (raster .entry)) w h (now (pieces .entry)) (orderedSets (now (pieces .entry)) across gap)
         (now (rects .entry)) (now (directions .entry)) (now (contrasts .entry)) (now (members .entry)) (now (ends .entry))
         (now (rects .exit)) (now (directions .exit)) (now (contrasts .exit)) (now (members .exit)) (now (ends .exit)) r ⌝ }
 {

@@ -1,8 +1,9 @@
 // The closed sets of pieces, and their order.
 ghost use Prim.Native.Nat.{_≤_, _<_, _^_};
 ghost use lib.ListN.{length};
-ghost use Rattle.rects.specs.Rects.{count, AllInside};
-ghost use Rattle.sets.specs.Parents.{Room};
+ghost use Rattle.rects.specs.Rects.{count};
+ghost use Rattle.rects.specs.Steps.{AllInside};
+ghost use Rattle.sets.specs.Steps.{Room};
 ghost use Rattle.segments.specs.Rulings.{pieceSets};
 ghost use Rattle.pieces.specs.Steps.{AllOrdered};
 ghost use Rattle.segments.specs.Steps.{Parts, SetsListed, SetsOrdered};

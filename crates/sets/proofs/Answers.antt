@@ -1,12 +1,12 @@
--- Why a call that lists sets answers as it should: accepted, from the listing; refused, since nothing happened. Assumes nothing.
+-- Why a call that lists sets answers as it should: accepted, from the listing; refused, since nothing happened.
 use mathlib.Core.Path.{_≡_, refl, sym, ap, _∙_}
 use mathlib.Core.Bool.{Bool, true, false, true≢false}
 use mathlib.Core.List.{List}
 use Prim.Native.Nat.{ℕ}
 use lib.ListN.{length}
 use Rattle.lists.specs.Lists.{concat, written}
-use Rattle.sets.specs.Listing.{Listing, Answered, classes, endsFrom}
-use Rattle.sets.specs.Parents.{root}
+use Rattle.sets.specs.Listing.{endsFrom}
+use Rattle.sets.specs.Steps.{Listing, Answered, classes, root}
 
 pub accepted : {fits : Bool} {n : ℕ} {ss : List (List ℕ)} {p m e w q q′ m′ e′ w′ : List ℕ} {k : ℕ} → fits ≡ true → classes n (root q) ≡ ss → Listing n q m e q′ m′ e′ k
     → Answered fits ss p m e w q′ m′ e′ w′ 0 k

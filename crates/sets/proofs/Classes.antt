@@ -12,8 +12,7 @@ use borrow.Author.Tests.{eqb-true, eq-eqb}
 use Rattle.lists.specs.Lists.{below, keep, In}
 use Rattle.lists.proofs.Keep.{in-below, below-in, kept-in, in-kept, in-at, at-in, getD-map, keep-below-same, map-same}
 use Rattle.sets.specs.Closed.{Below, Touching, Ascending, Closed, Once, Listed}
-use Rattle.sets.specs.Joins.{Represents}
-use Rattle.sets.specs.Listing.{classOf, classes, classIn, classesIn}
+use Rattle.sets.specs.Steps.{Represents, classOf, classes, classIn, classesIn}
 use Rattle.sets.proofs.Ascending.{ascending-below, ascending-keep, ascending-same, one-place}
 use Rattle.sets.proofs.Chains.{chain-step, chain-map, chain-carry, chain-inside}
 use Rattle.sets.proofs.Represents.{along}

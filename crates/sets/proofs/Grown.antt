@@ -14,8 +14,8 @@ use borrow.Author.Tests.{eqb-true, eq-eqb}
 use Rattle.lists.specs.Lists.{below, keep, any, In}
 use Rattle.lists.proofs.Keep.{length-below, in-below, below-in, kept-in, in-kept, any-true, true-any, map-same}
 use Rattle.sets.specs.Closed.{Below, Touching, Chain, here, Ascending, nothing, before, Listed}
-use Rattle.sets.specs.Joins.{Represents}
-use Rattle.sets.specs.Listing.{grow, grown, closedSet, closedSets, classOf, classes}
+use Rattle.sets.specs.Steps.{Represents, classOf, classes}
+use Rattle.sets.specs.Listing.{grow, grown, closedSet, closedSets}
 use Rattle.sets.proofs.Ascending.{ascending-below, ascending-keep, ascending-same, first-least, sublist}
 use Rattle.sets.proofs.Chains.{chain-append, chain-back, chain-step, chain-carry, chain-last}
 use Rattle.sets.proofs.Classes.{in-class, class-in, classes-listed, classes-same}

@@ -13,8 +13,7 @@ use Rattle.lists.specs.Lists.{below, written}
 use Rattle.lists.proofs.Keep.{length-below, getD-below}
 use Rattle.lists.proofs.Written.{written-length, written-at}
 use Rattle.sets.specs.Closed.{Touching, Chain, here}
-use Rattle.sets.specs.Joins.{Joins}
-use Rattle.sets.specs.Parents.{Room, Parents, root, SameRoots, merged, Joined}
+use Rattle.sets.specs.Steps.{Joins, Room, Parents, root, SameRoots, merged, Joined}
 use Rattle.sets.proofs.Chains.{chain-append, chain-back, chain-step, chain-map}
 use Rattle.sets.proofs.Represents.{represents-exchange}
 use Rattle.sets.proofs.Roots.{root-stays, root-le, root-root}

@@ -7,10 +7,7 @@ use lib.ListN.{getD}
 use Rattle.lists.specs.Lists.{below, written}
 use Rattle.lists.proofs.Keep.{length-values, getD-values}
 use Rattle.lists.proofs.Written.{written-length, written-at}
-use Rattle.sets.specs.Closed.{Smallest}
-use Rattle.sets.specs.Joins.{Joins}
-use Rattle.sets.specs.Parents.{Parents, root}
-use Rattle.sets.specs.Threads.{entry, Flat}
+use Rattle.sets.specs.Steps.{LeastOf, Joins, Parents, root, entry, Flat}
 use Rattle.sets.proofs.Represents.{represents-smallest}
 use Rattle.sets.proofs.Roots.{root-le, root-root}
 
@@ -29,5 +26,5 @@ module _ {n : ℕ} {p q : List ℕ} (P : Parents n p) (e : q ≡ written (map (r
 
 -- after flattening, each entry is the smallest index of its closed set
 pub label-smallest : {n : ℕ} {D : ℕ → Type 0} {R : ℕ → ℕ → Type 0} {p q : List ℕ} → Joins n D R p → q ≡ written (map (root p) (below n)) p
-    → (i : ℕ) → D i → Smallest D R i (getD q i 0)
+    → (i : ℕ) → D i → LeastOf D R i (getD q i 0)
 label-smallest J e i d = rw (label (J .parents) e i (J .inside i d)) (represents-smallest (J .roots) i d)

@@ -12,9 +12,8 @@ use borrow.Author.Tests.{lt-ltb, le-ltb, le-leb}
 use Rattle.lists.specs.Lists.{concat, written}
 use Rattle.lists.proofs.Written.{written-length, written-at}
 use Rattle.sets.specs.Closed.{Below, Listed}
-use Rattle.sets.specs.Listing.{closedSets, classes, classesIn, endsFrom, startOf, membersOf, Listing, ReadAs}
-use Rattle.sets.specs.Joins.{Joins}
-use Rattle.sets.specs.Parents.{Parents, root}
+use Rattle.sets.specs.Listing.{closedSets, endsFrom, startOf, membersOf, ReadAs}
+use Rattle.sets.specs.Steps.{classes, classesIn, Listing, Joins, Parents, root}
 use Rattle.sets.proofs.Classes.{classes-listed, classes-listed-in}
 use Rattle.sets.proofs.Grown.{Holds, classes-closedSets}
 use Rattle.sets.proofs.Sizes.{classes-all, classes-count, classes-total, length-ends}

@@ -8,8 +8,7 @@ use native.Mathlib.Decide.{decLt, ℕ-discrete}
 use native.Mathlib.Omega.{arith}
 use Rattle.lists.specs.Lists.{below, written}
 use Rattle.sets.specs.Closed.{Touching, Chain, here}
-use Rattle.sets.specs.Joins.{Joins, Seen}
-use Rattle.sets.specs.Parents.{Room, Joined}
+use Rattle.sets.specs.Steps.{Joins, Seen, Room, Joined}
 use Rattle.sets.proofs.Chains.{chain-step}
 use Rattle.sets.proofs.Joins.{joins-none, joins-more, joins-same, joins-exchange}
 

@@ -3,8 +3,8 @@ use mathlib.Core.Path.{_≡_, sym}
 use Prim.Native.Nat.{ℕ, _≤_}
 use native.Mathlib.Nat.{le-antisymm}
 use native.Mathlib.Omega.{arith}
-use Rattle.sets.specs.Closed.{Chain, Smallest}
-use Rattle.sets.specs.Joins.{Represents}
+use Rattle.sets.specs.Closed.{Chain}
+use Rattle.sets.specs.Steps.{LeastOf, Represents}
 use Rattle.sets.proofs.Chains.{chain-last, chain-agree, chain-map}
 
 module _ {D : ℕ → Type 0} {R : ℕ → ℕ → Type 0} {f : ℕ → ℕ} (F : Represents D R f) where
@@ -12,7 +12,7 @@ module _ {D : ℕ → Type 0} {R : ℕ → ℕ → Type 0} {f : ℕ → ℕ} (F 
   along c = chain-agree f (F .complete) c
 
   -- the representative is the smallest index of the closed set
-  pub represents-smallest : (i : ℕ) → D i → Smallest D R i (f i)
+  pub represents-smallest : (i : ℕ) → D i → LeastOf D R i (f i)
   represents-smallest i d =
       record {
         member = F .sound i (f i) d (F .stays i d) (sym (F .fixed i d));

@@ -12,7 +12,7 @@ use lib.Dec.{eqb}
 use lib.ListN.{getD, set, length-set}
 use lib.Seq.{getD-set-same, getD-set-other, drop-set-lt}
 use borrow.Author.Tests.{eq-eqb, ne-eqb, eqb-true}
-use Rattle.sets.specs.Parents.{Parents, climb, root, SameRoots, merged, Joined}
+use Rattle.sets.specs.Steps.{Parents, climb, root, SameRoots, merged, Joined}
 
 climb-same : (p : List ℕ) (k i : ℕ) → getD p i 0 ≡ i → climb p k i ≡ i
 unfolding climb

@@ -11,7 +11,8 @@ use borrow.Author.Tests.{eq-eqb, ne-eqb, lt-ltb, le-ltb}
 use Rattle.lists.specs.Lists.{one, below, keep, concat}
 use Rattle.lists.proofs.Keep.{length-below, map-append, concat-append}
 use Rattle.lists.proofs.Sizes.{keep-size-le, keep-size-split, keep-one, keep-past, keep-none, keep-all}
-use Rattle.sets.specs.Listing.{closedSet, closedSets, classOf, classes, endsFrom}
+use Rattle.sets.specs.Listing.{closedSet, closedSets, endsFrom}
+use Rattle.sets.specs.Steps.{classOf, classes}
 
 -- there are no more closed sets than indexes
 pub sets-few : (n : ℕ) (touch : ℕ → ℕ → Bool) → length (closedSets n touch) ≤ n

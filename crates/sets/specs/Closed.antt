@@ -3,7 +3,7 @@ use mathlib.Core.Path.{_≡_}
 use mathlib.Core.Bool.{Bool, true}
 use mathlib.Core.Logic.{_⊎_}
 use mathlib.Core.List.{List, [], _∷_}
-use Prim.Native.Nat.{ℕ, _≤_, _<_}
+use Prim.Native.Nat.{ℕ, _<_}
 use lib.ListN.{length, getD}
 use Rattle.lists.specs.Lists.{In}
 
@@ -19,11 +19,6 @@ Touching R i j = R i j ⊎ R j i
 pub data Chain (S : ℕ → Type 0) (R : ℕ → ℕ → Type 0) : ℕ → ℕ → Type 0 where
   here : {i : ℕ} → S i → Chain S R i i
   next : {i j k : ℕ} → S i → Touching R i j → Chain S R j k → Chain S R i k
-
--- s is the smallest index of the closed set of i: of all that a chain joins to i.
-pub record Smallest (D : ℕ → Type 0) (R : ℕ → ℕ → Type 0) (i s : ℕ) : Type 0 where
-  pub member : Chain D R i s
-  pub least : (j : ℕ) → Chain D R i j → s ≤ j
 
 -- A list ascends when each entry is below all that follow it.
 pub data Ascending : List ℕ → Type 0 where

@@ -1,6 +1,4 @@
--- Closed sets of indexes, and the parents by which the code finds them.
+-- Closed sets of indexes, and the parents by which the code finds them. `Steps` is not needed to read the contracts.
 pub mod Closed
-pub mod Parents
-pub mod Joins
 pub mod Listing
-pub mod Threads
+pub mod Steps

@@ -1,12 +1,11 @@
 -- Listings: the closed sets in a definition that computes, and how a listing stands in lent lists.
 use mathlib.Core.Path.{_≡_}
-use mathlib.Core.Bool.{Bool, false, cond, _&&_, _||_}
+use mathlib.Core.Bool.{Bool, cond, _&&_, _||_}
 use mathlib.Core.List.{List, [], _∷_, map}
 use Prim.Native.Nat.{ℕ, zero, suc, _+_, _-_, _≤_, _<_}
 use lib.Dec.{eqb, leb, ltb}
 use lib.ListN.{length, getD, take, drop}
-use Rattle.lists.specs.Lists.{below, keep, any, concat, written}
-use Rattle.sets.specs.Parents.{root}
+use Rattle.lists.specs.Lists.{below, keep, any}
 
 -- A set with all indexes below n that touch a member of it, either way round.
 abbrev pub grow : ℕ → (ℕ → ℕ → Bool) → List ℕ → List ℕ
@@ -36,41 +35,10 @@ unfoldable pub closedSetsIn : ℕ → (ℕ → Bool) → (ℕ → ℕ → Bool) 
 closedSetsIn n q touch =
     let ss = closedSets n (touchIn q touch) in map (λ k. getD ss k []) (keep (λ k. q (getD (getD ss k []) 0 0)) (below (length ss)))
 
--- The indexes below n of which f is r, ascending.
-abbrev pub classOf : ℕ → (ℕ → ℕ) → ℕ → List ℕ
-classOf n f r = keep (λ i. eqb (f i) r) (below n)
-
--- The indexes below n in sets of equal f, by smallest index, where f gives each the smallest of its set.
-abbrev pub classes : ℕ → (ℕ → ℕ) → List (List ℕ)
-classes n f = map (classOf n f) (keep (λ r. eqb (f r) r) (below n))
-
--- The same over the indexes below n that pass a test.
-abbrev pub classIn : ℕ → (ℕ → Bool) → (ℕ → ℕ) → ℕ → List ℕ
-classIn n q f r = keep (λ i. q i && eqb (f i) r) (below n)
-
-abbrev pub classesIn : ℕ → (ℕ → Bool) → (ℕ → ℕ) → List (List ℕ)
-classesIn n q f = map (classIn n q f) (keep (λ r. q r && eqb (f r) r) (below n))
-
 -- The end of each set, where the sets are strung together from place k on.
 abbrev pub endsFrom : ℕ → List (List ℕ) → List ℕ
 endsFrom k [] = []
 endsFrom k (s ∷ ss) = (k + length s) ∷ endsFrom (k + length s) ss
-
--- What `list` leaves: the sets of equal root strung together, their ends and their count; places past the answers are kept. The parents are flat.
-pub record Listing (n : ℕ) (p m e p′ m′ e′ : List ℕ) (r : ℕ) : Type 0 where
-  pub count : r ≡ length (classes n (root p))
-  pub members : m′ ≡ written (concat (classes n (root p))) m
-  pub ends : e′ ≡ written (endsFrom 0 (classes n (root p))) e
-  pub labels : p′ ≡ written (map (root p) (below n)) p
-
--- What a call that lists sets leaves: accepted, 0, the sets strung together, their ends and their count; refused, 1, and every list as it was.
-pub record Answered (fits : Bool) (ss : List (List ℕ)) (p m e w p′ m′ e′ w′ : List ℕ) (r k : ℕ) : Type 0 where
-  pub number : r ≡ cond fits 0 1
-  pub count : k ≡ cond fits (length ss) 0
-  pub members : m′ ≡ cond fits (written (concat ss) m) m
-  pub ends : e′ ≡ cond fits (written (endsFrom 0 ss) e) e
-  pub parents-kept : fits ≡ false → p′ ≡ p
-  pub work-kept : fits ≡ false → w′ ≡ w
 
 -- Set k begins where the one before it ends.
 abbrev pub startOf : List ℕ → ℕ → ℕ

@@ -6,9 +6,8 @@ ghost use mathlib.Core.List.{List, map};
 ghost use Prim.Native.Nat.{ℕ, _≤_, _<_};
 ghost use lib.ListN.{length};
 ghost use Rattle.lists.specs.Lists.{below, written};
-ghost use Rattle.sets.specs.Listing.{Listing, startOf, membersOf};
-ghost use Rattle.sets.specs.Threads.{Flat, Unthreaded, Threaded, Rising, Trail, Fitting, Appended, Gathered};
-ghost use Rattle.sets.specs.Parents.{Room, Parents, root, Found, Joined};
+ghost use Rattle.sets.specs.Listing.{startOf, membersOf};
+ghost use Rattle.sets.specs.Steps.{Listing, Flat, Unthreaded, Threaded, Rising, Trail, Fitting, Appended, Gathered, Room, Parents, root, Found, Joined};
 
 // Each index below n alone: its own parent.
 pub fn begin(parents: &mut [u32], n: usize)

@@ -15,7 +15,7 @@ pub record Collected (horizontal : Bool) (s : ℕ → Segment) (set keys′ : Li
   pub short : r ≤ length set
 
 -- The members in a direction and their lines were counted.
-pub record Counted (cluster : ℕ) (horizontal : Bool) (s : ℕ → Segment) (set : List ℕ) (r l : ℕ) : Type 0 where
+pub record LinesCounted (cluster : ℕ) (horizontal : Bool) (s : ℕ → Segment) (set : List ℕ) (r l : ℕ) : Type 0 where
   pub rulings : r ≡ length (members horizontal s set)
   pub lines : l ≡ linesOf cluster horizontal s set
   pub few : l ≤ length set

@@ -1,6 +1,6 @@
 // What the settings and the x-height come to, in pixels.
 ghost use mathlib.Core.Path.{_≡_};
-ghost use Rattle.params.specs.Settled.{Settled};
+ghost use Rattle.params.specs.Steps.{SettingsPassed};
 ghost use Rattle.shapes.specs.Limits.{limitsOf};
 use params::settings::RulingsParams;
 
@@ -12,7 +12,7 @@ pub struct Limits {
 }
 
 pub fn limits_of(p: RulingsParams, xheight: f64) -> Limits
-    requires { ⌜ Settled p xheight ⌝ }
+    requires { ⌜ SettingsPassed p xheight ⌝ }
     ensures { λ r. ⌜ r ≡ limitsOf p xheight ⌝ }
 {
     let join = params::pixels::limit(p.join_tol_xh, xheight);

@@ -6,8 +6,8 @@ ghost use lib.Dec.{leb};
 ghost use lib.ListN.{length};
 ghost use Rattle.meeting.specs.Segments.{rulingAt};
 ghost use Rattle.shapes.specs.Shapes.{inDirection, positions};
-ghost use Rattle.meeting.specs.Steps.{Given, Inside};
-ghost use Rattle.shapes.specs.Steps.{Collected, Counted, Shaped};
+ghost use Rattle.meeting.specs.Steps.{Given, IndexesBelow};
+ghost use Rattle.shapes.specs.Steps.{Collected, LinesCounted, Shaped};
 use crate::limits::Limits;
 use meeting::listing;
 use meeting::segment;
@@ -32,7 +32,7 @@ fn collect(
     horizontal: bool,
     keys: &mut [u64],
 ) -> usize
-    requires { ⌜ Given (now rects) (now directions) (now chosen) × Inside (length (now chosen)) (now set) × (length (now set) ≤ length (now keys)) ⌝ }
+    requires { ⌜ Given (now rects) (now directions) (now chosen) × IndexesBelow (length (now chosen)) (now set) × (length (now set) ≤ length (now keys)) ⌝ }
     ensures { λ r. ⌜ Collected horizontal (rulingAt (now (rects .entry)) (now (directions .entry)) (now (chosen .entry))) (now (set .entry)) (now (keys .exit)) r ⌝ }
 {
     let mut n = 0;
@@ -63,8 +63,8 @@ fn count_lines(
     order: &mut [u32],
     work: &mut [u32],
 ) -> Count
-    requires { ⌜ Given (now rects) (now directions) (now chosen) × Inside (length (now chosen)) (now set) × (length (now set) ≤ length (now keys)) × (length (now set) ≤ length (now order)) × (length (now set) ≤ length (now work)) ⌝ }
-    ensures { λ r. ⌜ Counted cluster horizontal (rulingAt (now (rects .entry)) (now (directions .entry)) (now (chosen .entry))) (now (set .entry)) (r .rulings) (r .lines) ⌝ }
+    requires { ⌜ Given (now rects) (now directions) (now chosen) × IndexesBelow (length (now chosen)) (now set) × (length (now set) ≤ length (now keys)) × (length (now set) ≤ length (now order)) × (length (now set) ≤ length (now work)) ⌝ }
+    ensures { λ r. ⌜ LinesCounted cluster horizontal (rulingAt (now (rects .entry)) (now (directions .entry)) (now (chosen .entry))) (now (set .entry)) (r .rulings) (r .lines) ⌝ }
 {
     let n = collect(rects, directions, chosen, set, horizontal, keys);
     let lines = lines::lines(&keys[..n], cluster, order, work);
@@ -98,7 +98,7 @@ pub fn shape_of(
     order: &mut [u32],
     work: &mut [u32],
 ) -> Shape
-    requires { ⌜ Given (now rects) (now directions) (now chosen) × Inside (length (now chosen)) (now set) × (length (now set) ≤ length (now keys)) × (length (now set) ≤ length (now order)) × (length (now set) ≤ length (now work)) ⌝ }
+    requires { ⌜ Given (now rects) (now directions) (now chosen) × IndexesBelow (length (now chosen)) (now set) × (length (now set) ≤ length (now keys)) × (length (now set) ≤ length (now order)) × (length (now set) ≤ length (now work)) ⌝ }
     ensures { λ r. ⌜ Shaped limits (rulingAt (now (rects .entry)) (now (directions .entry)) (now (chosen .entry))) (now (set .entry)) (r .table) (r .«row_lines») (r .«column_lines») ⌝ }
 {
     let h = count_lines(

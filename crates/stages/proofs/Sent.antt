@@ -7,9 +7,8 @@ use lib.Ieee.{Float}
 use lib.ListN.{length, take}
 use Rattle.rects.specs.Rects.{count}
 use Rattle.params.specs.declared.settings.RulingsParams.{RulingsParams}
-use Rattle.segments.specs.Rulings.{rulingSets}
-use Rattle.segments.specs.Steps.{Made}
-use Rattle.segments.specs.Printed.{SplitByContrast}
+use Rattle.segments.specs.Rulings.{orderedSets}
+use Rattle.segments.specs.Steps.{Made, SplitByContrast}
 use Rattle.shapes.specs.declared.limits.Limits.{Limits}
 use Rattle.tables.specs.Steps.{Lists, Filled, Roomy}
 use Rattle.boxes.specs.declared.limits.Limits as BoxLimits
@@ -20,9 +19,9 @@ use Rattle.stages.proofs.Bundle.{cut}
 
 pub made-sent : {raster : List ℕ} {w h : ℕ} {pieces : List ℕ} {across across′ gap gap′ : ℕ} {rs ds : List ℕ} {cs : List Float} {ms es rs′ ds′ : List ℕ} {cs′ : List Float} {ms′ es′ rs″ ds″ : List ℕ} {cs″ : List Float} {ms″ es″ : List ℕ} {n : ℕ}
     → across ≡ across′ → gap ≡ gap′ → rs′ ≡ rs″ → ds′ ≡ ds″ → cs′ ≡ cs″ → ms′ ≡ ms″ → es′ ≡ es″
-    → Made raster w h pieces (rulingSets pieces across gap) rs ds cs ms es rs′ ds′ cs′ ms′ es′ n → Made raster w h pieces (rulingSets pieces across′ gap′) rs ds cs ms es rs″ ds″ cs″ ms″ es″ n
+    → Made raster w h pieces (orderedSets pieces across gap) rs ds cs ms es rs′ ds′ cs′ ms′ es′ n → Made raster w h pieces (orderedSets pieces across′ gap′) rs ds cs ms es rs″ ds″ cs″ ms″ es″ n
 made-sent {raster} {w} {h} {pieces} {rs = rs} {ds} {cs} {ms} {es} {n = n} a g r d c m e D =
-    transport (λ i. Made raster w h pieces (rulingSets pieces (a i) (g i)) rs ds cs ms es (r i) (d i) (c i) (m i) (e i) n) D
+    transport (λ i. Made raster w h pieces (orderedSets pieces (a i) (g i)) rs ds cs ms es (r i) (d i) (c i) (m i) (e i) n) D
 
 pub split-sent : {p : RulingsParams} {cs : List Float} {ps fs ps′ fs′ ps″ fs″ : List ℕ} {a b : ℕ} → ps′ ≡ ps″ → fs′ ≡ fs″ → SplitByContrast p cs ps fs ps′ fs′ a b → SplitByContrast p cs ps fs ps″ fs″ a b
 split-sent {p} {cs} {ps} {fs} {a = a} {b = b} e f D = transport (λ i. SplitByContrast p cs ps fs (e i) (f i) a b) D

@@ -1,2 +1,2 @@
-pub mod Bundles
+-- What a reader must believe of `stages`. `Steps` is not needed to read the contracts.
 pub mod Steps

@@ -1,7 +1,7 @@
 // Boxes, and the grids among them.
 ghost use Prim.Native.Nat.{_*_, _≤_};
 ghost use lib.ListN.{length, take};
-ghost use Rattle.params.specs.Settled.{Settled};
+ghost use Rattle.params.specs.Steps.{SettingsPassed};
 ghost use Rattle.params.specs.Limits.{alignLimit};
 ghost use Rattle.boxes.specs.Limits.{limitsOf};
 ghost use Rattle.boxes.specs.Steps as Boxes;
@@ -47,7 +47,7 @@ fn grids_of(
     box_order: &mut [u32],
     box_keys: &mut [u64],
 ) -> Counts
-    requires { ⌜ Settled p xheight × (4 * n ≤ length (now boxes)) × Grids.PassedBoxes (take (4 * n) (now boxes)) × Grids.Roomy n
+    requires { ⌜ SettingsPassed p xheight × (4 * n ≤ length (now boxes)) × Grids.PassedBoxes (take (4 * n) (now boxes)) × Grids.Roomy n
         (record { members = now members; ends = now ends; reading = now reading; numbers = now numbers; parents = now «box_parents»; work = now «box_order»; keys = now «box_keys» }) ⌝ }
     ensures { λ r. ⌜ Grids.Filled (take (4 * n) (now (boxes .entry))) (alignLimit p xheight) (p .«grid_min_boxes»)
         (record { members = now (members .entry); ends = now (ends .entry); reading = now (reading .entry); numbers = now (numbers .entry); parents = now («box_parents» .entry); work = now («box_order» .entry); keys = now («box_keys» .entry) })
@@ -82,7 +82,7 @@ pub fn grids_in(
     order: &mut [&mut [u32]; 2],
     box_keys: &mut [&mut [u64]; 1],
 ) -> Counts
-    requires { ⌜ Settled p xheight × (4 * n ≤ length (listAt 1 (now rects))) × Grids.PassedBoxes (take (4 * n) (listAt 1 (now rects))) × Grids.Roomy n
+    requires { ⌜ SettingsPassed p xheight × (4 * n ≤ length (listAt 1 (now rects))) × Grids.PassedBoxes (take (4 * n) (listAt 1 (now rects))) × Grids.Roomy n
         (record {
           members = listAt 2 (now members);
           ends = listAt 2 (now ends);

@@ -1,7 +1,7 @@
 // Tables, found among the printed rulings.
 ghost use Prim.Native.Nat.{_*_, _≤_};
 ghost use lib.ListN.{length, take};
-ghost use Rattle.params.specs.Settled.{Settled};
+ghost use Rattle.params.specs.Steps.{SettingsPassed};
 ghost use Rattle.meeting.specs.Steps.{Given};
 ghost use Rattle.shapes.specs.Limits.{limitsOf};
 ghost use Rattle.tables.specs.Steps.{Filled, Roomy};
@@ -33,7 +33,7 @@ fn tables_of(
     order: &mut [u32],
     keys: &mut [u64],
 ) -> Counts
-    requires { ⌜ Settled p xheight × PartsLong n k (now rects) (now directions) (now printed)
+    requires { ⌜ SettingsPassed p xheight × PartsLong n k (now rects) (now directions) (now printed)
         × Given (take (4 * n) (now rects)) (take n (now directions)) (take k (now printed)) × Roomy k
         (record {
           members = now members;
@@ -122,7 +122,7 @@ pub fn tables_in(
     order: &mut [&mut [u32]; 2],
     keys: &mut [&mut [u64]; 1],
 ) -> Counts
-    requires { ⌜ Settled p xheight × PartsLong n k (listAt 0 (now rects)) (listAt 0 (now tags)) (listAt 0 (now chosen))
+    requires { ⌜ SettingsPassed p xheight × PartsLong n k (listAt 0 (now rects)) (listAt 0 (now tags)) (listAt 0 (now chosen))
         × Given (take (4 * n) (listAt 0 (now rects))) (take n (listAt 0 (now tags))) (take k (listAt 0 (now chosen))) × Roomy k
         (record {
           members = listAt 1 (now members);

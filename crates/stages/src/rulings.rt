@@ -1,10 +1,9 @@
 // Rulings, and which of them are printed.
 ghost use Prim.Native.Nat.{_≤_};
 ghost use lib.ListN.{length, take};
-ghost use Rattle.params.specs.Settled.{Settled};
+ghost use Rattle.params.specs.Steps.{SettingsPassed};
 ghost use Rattle.segments.specs.Call.{setsOf};
-ghost use Rattle.segments.specs.Printed.{SplitByContrast};
-ghost use Rattle.segments.specs.Steps.{Ready, Made, RoomForPlaces};
+ghost use Rattle.segments.specs.Steps.{SplitByContrast, Ready, Made, RoomForPlaces};
 ghost use Rattle.page.specs.Lent.{listAt};
 ghost use Rattle.stages.specs.Bundles.{Only, Kept};
 use layout::sides::Sides;
@@ -28,7 +27,7 @@ pub fn rulings_in(
     order: &mut [&mut [u32]; 2],
     keys: &mut [&mut [u64]; 1],
 ) -> usize
-    requires { ⌜ Settled p xheight
+    requires { ⌜ SettingsPassed p xheight
         × Ready (listAt 0 (now levelled)) (sides .w) (sides .h) (now pieces) (listAt 0 (now rects)) (listAt 0 (now tags)) (listAt 0 (now values))
         (listAt 0 (now members)) (listAt 0 (now ends)) (listAt 0 (now parents)) (listAt 0 (now listed)) (listAt 0 (now «listed_ends»)) (listAt 0 (now order)) (listAt 0 (now keys)) ⌝ }
     ensures { λ n. ⌜ Made (listAt 0 (now (levelled .entry))) (sides .w) (sides .h) (now (pieces .entry)) (setsOf xheight (now (pieces .entry)) p)

@@ -15,12 +15,12 @@ use Rattle.meeting.specs.declared.segment.Segment.{Segment}
 use Rattle.shapes.specs.declared.limits.Limits.{Limits}
 use Rattle.shapes.specs.Shapes.{isTable, linesOf, rowsOf, columnsOf}
 use Rattle.table_lists.specs.Answers.{tableNumbers, freeNumbers, freeList}
-use Rattle.meeting.specs.Steps.{Inside}
+use Rattle.meeting.specs.Steps.{IndexesBelow}
 use Rattle.table_lists.specs.Steps.{SetsIn, Chose}
 use Rattle.table_lists.proofs.Strung.{strung, strung-one, strung-fits}
 
 -- a set below the count, as it was read
-pub set-read : {n : ℕ} {f : ℕ → List ℕ} {count k : ℕ} {xs : List ℕ} → SetsIn n f count → k < count → xs ≡ f k → Inside n xs × (0 < length xs)
+pub set-read : {n : ℕ} {f : ℕ → List ℕ} {count k : ℕ} {xs : List ℕ} → SetsIn n f count → k < count → xs ≡ f k → IndexesBelow n xs × (0 < length xs)
 set-read S h e = rw e (S .inside _ h, S .some _ h)
 
 -- the first numbers of a list, one more

@@ -11,12 +11,12 @@ use Rattle.meeting.specs.Segments.{rulingAt}
 use Rattle.shapes.specs.Shapes.{rowsOf, columnsOf}
 use Rattle.meeting.specs.Meeting.{shareOf}
 use Rattle.table_lists.specs.Answers.{tableNumbers, freeList, boundsOf}
-use Rattle.meeting.specs.Steps.{Inside}
+use Rattle.meeting.specs.Steps.{IndexesBelow}
 
 -- The sets below a count: not empty, within the indexes below n, and no more of both than n.
 pub record SetsIn (n : ℕ) (set : ℕ → List ℕ) (count : ℕ) : Type 0 where
   pub few : count ≤ n
-  pub inside : (k : ℕ) → k < count → Inside n (set k)
+  pub inside : (k : ℕ) → k < count → IndexesBelow n (set k)
   pub some : (k : ℕ) → k < count → 0 < length (set k)
   pub total : length (concat (map set (below count))) ≤ n
 
@@ -54,7 +54,7 @@ pub record Measured (join : ℕ) (s : ℕ → Segment) (set : ℕ → List ℕ) 
   pub shares : sh′ ≡ written (map (λ k. shareOf join s (set k)) numbers) sh
 
 -- Rectangles, sizes and joined shares of the sets with the given numbers were written.
-pub record Described (join : ℕ) (rects directions chosen : List ℕ) (set : ℕ → List ℕ) (numbers bo ru : List ℕ) (sh : List Float)
+pub record FactsWritten (join : ℕ) (rects directions chosen : List ℕ) (set : ℕ → List ℕ) (numbers bo ru : List ℕ) (sh : List Float)
     (bo′ ru′ : List ℕ) (sh′ : List Float) : Type 0 where
   pub bounded : Bounded rects chosen set numbers bo bo′
   pub measured : Measured join (rulingAt rects directions chosen) set numbers ru sh ru′ sh′

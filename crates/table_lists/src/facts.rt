@@ -7,7 +7,7 @@ ghost use Rattle.rects.specs.Around.{around};
 ghost use Rattle.sets.specs.Listing.{membersOf};
 ghost use Rattle.meeting.specs.Segments.{rulingAt};
 ghost use Rattle.table_lists.specs.Answers.{placesOf};
-ghost use Rattle.meeting.specs.Steps.{Given, Inside};
+ghost use Rattle.meeting.specs.Steps.{Given, IndexesBelow};
 ghost use Rattle.table_lists.specs.Steps.{SetsIn, Numbers, Rooms, Chose, Bounded, Measured};
 use meeting::ends;
 use shapes::limits::Limits;
@@ -78,7 +78,7 @@ pub fn choose(
 
 // The smallest rectangle around the rulings of a set.
 fn around_set(rects: &[u32], directions: &[u32], chosen: &[u32], set: &[u32]) -> rects::Rect
-    requires { ⌜ Given (now rects) (now directions) (now chosen) × Inside (length (now chosen)) (now set) × (0 < length (now set)) ⌝ }
+    requires { ⌜ Given (now rects) (now directions) (now chosen) × IndexesBelow (length (now chosen)) (now set) × (0 < length (now set)) ⌝ }
     ensures { λ r. ⌜ r ≡ around (now (rects .entry)) (placesOf (now (chosen .entry)) (now (set .entry))) ⌝ }
 {
     let first = chosen[set[0] as usize] as usize;

@@ -18,8 +18,8 @@ use Rattle.meeting.specs.Segments.{rulingAt}
 use Rattle.meeting.specs.Meeting.{touch, rulingSets}
 use Rattle.shapes.specs.Shapes.{isTable}
 use Rattle.table_lists.specs.Answers.{tableNumbers}
-use Rattle.meeting.specs.Steps.{Inside, Connected}
-use Rattle.table_lists.specs.Steps.{SetsIn, Numbers, Chose, Described}
+use Rattle.meeting.specs.Steps.{IndexesBelow, Connected}
+use Rattle.table_lists.specs.Steps.{SetsIn, Numbers, Chose, FactsWritten}
 use Rattle.tables.specs.Call.{setAt}
 use Rattle.tables.specs.Steps.{Lists, Filled}
 use Rattle.table_lists.proofs.Passes.{tables-few}
@@ -40,7 +40,7 @@ module _ (join : ℕ) (s : ℕ → Segment) (n : ℕ) {m e m′ e′ : List ℕ}
   pub read : ReadAs ss m′ e′ r
   read = record { each = λ k h. each k; none = λ k h. each k ∙ List·getD-eq-default ss [] (rw (C .count) at h) }
 
-  inside : (k : ℕ) → k < length ss → Inside n (getD ss k [])
+  inside : (k : ℕ) → k < length ss → IndexesBelow n (getD ss k [])
   inside k h =
       let c = closedSets-listed n (touch join s) .closed k h in
       record {
@@ -85,15 +85,15 @@ module _ (rects directions chosen : List ℕ) (lim : Limits) (l l′ : Lists) wh
   pub filled : {r t a : ℕ} {f : ℕ → List ℕ} → Connected (lim .join) s (length chosen) (l .members) (l .ends) (l′ .members) (l′ .ends) r
       → f ≡ setAt rects directions chosen lim → ReadAs (rulingSets (lim .join) s (length chosen)) (l′ .members) (l′ .ends) r
       → Chose lim s f r (l .numbers) (l .rows) (l .columns) (l .free) (l′ .numbers) (l′ .rows) (l′ .columns) (l′ .free) t a
-      → Described (lim .join) rects directions chosen f (take t (l′ .numbers)) (l .bounds) (l .rulings) (l .shares) (l′ .bounds) (l′ .rulings) (l′ .shares)
+      → FactsWritten (lim .join) rects directions chosen f (take t (l′ .numbers)) (l .bounds) (l .rulings) (l .shares) (l′ .bounds) (l′ .rulings) (l′ .shares)
       → Filled rects directions chosen lim l l′ r t a
   filled {r} {t} {a} {f} C ef B H D =
       let n = length (rulingSets (lim .join) s (length chosen)) in
       let H₁ : Chose lim s f n (l .numbers) (l .rows) (l .columns) (l .free) (l′ .numbers) (l′ .rows) (l′ .columns) (l′ .free) t a =
       subst (λ (c : ℕ). Chose lim s f c (l .numbers) (l .rows) (l .columns) (l .free) (l′ .numbers) (l′ .rows) (l′ .columns) (l′ .free) t a) (C .count) H in
       let H₂ = subst (λ (g : ℕ → List ℕ). Chose lim s g n (l .numbers) (l .rows) (l .columns) (l .free) (l′ .numbers) (l′ .rows) (l′ .columns) (l′ .free) t a) ef H₁ in
-      let D₁ = subst (λ (w : List ℕ). Described (lim .join) rects directions chosen f w (l .bounds) (l .rulings) (l .shares) (l′ .bounds) (l′ .rulings) (l′ .shares)) (in-front H₁) D in
-      let D₂ = subst (λ (g : ℕ → List ℕ). Described (lim .join) rects directions chosen g (tableNumbers lim s g n) (l .bounds) (l .rulings) (l .shares) (l′ .bounds) (l′ .rulings) (l′ .shares)) ef D₁ in
+      let D₁ = subst (λ (w : List ℕ). FactsWritten (lim .join) rects directions chosen f w (l .bounds) (l .rulings) (l .shares) (l′ .bounds) (l′ .rulings) (l′ .shares)) (in-front H₁) D in
+      let D₂ = subst (λ (g : ℕ → List ℕ). FactsWritten (lim .join) rects directions chosen g (tableNumbers lim s g n) (l .bounds) (l .rulings) (l .shares) (l′ .bounds) (l′ .rulings) (l′ .shares)) ef D₁ in
       record {
         set-count = C .count;
         table-count = H₂ .tables;

@@ -20,7 +20,7 @@ use Rattle.rects.proofs.Questions.{count-says, all-inside-says, has-numbers}
 use Rattle.table_questions.specs.Questions.{directionsFit}
 use Rattle.table_questions.specs.Steps.{roomForTables, roomForIndexes}
 use Rattle.meeting.specs.Steps as Meeting
-use Rattle.params.specs.Settled.{Settled}
+use Rattle.params.specs.Steps.{SettingsPassed}
 use Rattle.tables.specs.Call.{Given, Lent, hasRoom, questions, places}
 use Rattle.tables.specs.Steps.{Roomy, listsOf}
 
@@ -112,7 +112,7 @@ given-says rects directions g h =
 -- what a guard that gave 0 says
 pub record Passed (g : Given) (l : Lent) : Type 0 where
   pub given : Meeting.Given (g .rects) (g .directions) (places g)
-  pub settled : Settled (g .settings) (g .xheight)
+  pub settled : SettingsPassed (g .settings) (g .xheight)
   pub roomy : Roomy (count (g .rects)) (listsOf l)
   pub chosen : count (g .rects) ≤ length (l .chosen)
   pub few : count (g .rects) ≤ 4096

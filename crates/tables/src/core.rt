@@ -4,7 +4,7 @@ ghost use Prim.Native.Nat.{_*_, _<_, _≤_, _^_};
 ghost use lib.ListN.{length, take};
 ghost use Rattle.sets.specs.Listing.{membersOf};
 ghost use Rattle.meeting.specs.Steps.{Given};
-ghost use Rattle.table_lists.specs.Steps.{SetsIn, Numbers, Described};
+ghost use Rattle.table_lists.specs.Steps.{SetsIn, Numbers, FactsWritten};
 ghost use Rattle.tables.specs.Steps.{Filled, Roomy};
 use meeting::connect;
 use shapes::limits::Limits;
@@ -28,7 +28,7 @@ fn describe(
     requires { ⌜ (join < 2 ^ 32) × Given (now rects) (now directions) (now chosen)
         × SetsIn (length (now chosen)) (membersOf (now members) (now ends) count) count × Numbers (now numbers) tables count ⌝ }
     requires { ⌜ (4 * tables ≤ length (now bounds)) × (tables ≤ length (now rulings)) × (tables ≤ length (now shares)) ⌝ }
-    ensures { λ _. ⌜ Described join (now (rects .entry)) (now (directions .entry)) (now (chosen .entry))
+    ensures { λ _. ⌜ FactsWritten join (now (rects .entry)) (now (directions .entry)) (now (chosen .entry))
         (membersOf (now (members .entry)) (now (ends .entry)) count) (take tables (now (numbers .entry)))
         (now (bounds .entry)) (now (rulings .entry)) (now (shares .entry)) (now (bounds .exit)) (now (rulings .exit)) (now (shares .exit)) ⌝ }
 {

@@ -1,4 +1,4 @@
--- `boxes::boxes` meets its contract: the guard gives the number, and the core the lists where it is 0. Assumes nothing.
+-- `boxes::boxes` meets its contract: the guard gives the number, and the core the lists where it is 0.
 use borrow.Author.Needs.{needs}
 use mathlib.Core.Path.{_≡_, sym, _∙_}
 use native.Mathlib.Omega.{arith}

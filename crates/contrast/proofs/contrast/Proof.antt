@@ -1,4 +1,4 @@
--- `contrast::contrast` meets its contract: level, sum and count are whole numbers, and `contrasted` is the law of their floats. Assumes nothing.
+-- `contrast::contrast` meets its contract: level, sum and count are whole numbers, and `contrasted` is the law of their floats.
 use mathlib.Core.Path.{sym}
 use native.Mathlib.Omega.{arith}
 use native.Mathlib.Nat.{le-of-eq}

@@ -7,8 +7,7 @@ use lib.ListN.{length}
 use borrow.Author.Needs.{needs}
 use Rattle.lists.proofs.Rooms.{rooms}
 use Rattle.sets.specs.Closed.{Below}
-use Rattle.sets.specs.Joins.{Joins}
-use Rattle.sets.specs.Listing.{Listing}
+use Rattle.sets.specs.Steps.{Joins, Listing}
 use Rattle.sets.proofs.Answers.{accepted, refused}
 use Rattle.sets.proofs.Grown.{closedSets-listed}
 use Rattle.sets.proofs.Listings.{joins-closedSets}

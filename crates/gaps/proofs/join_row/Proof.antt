@@ -9,8 +9,7 @@ use native.Mathlib.Omega.{arith}
 use borrow.Author.Needs.{needs}
 use lib.ListN.{length, getD}
 use Rattle.sets.specs.Closed.{Below}
-use Rattle.sets.specs.Joins.{Joins, Seen}
-use Rattle.sets.specs.Parents.{Joined}
+use Rattle.sets.specs.Steps.{Joins, Seen, Joined}
 use Rattle.sets.proofs.Pairs.{pair-next}
 use Rattle.gaps.specs.Gaps.{near, touch, Touch}
 use Rattle.gaps.proofs.join_row.Statement.{statement}

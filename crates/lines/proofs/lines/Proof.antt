@@ -9,7 +9,8 @@ use lib.Seq.{take-at}
 use Rattle.lists.proofs.Keep.{length-values}
 use Rattle.order.specs.Order.{keyAt, sortedIndexes}
 use Rattle.order.proofs.Computed.{sorted-length}
-use Rattle.lines.specs.Lines.{inOrder, lineAt, lineNumbers, Room, Ordered, Lined, Numbered}
+use Rattle.lines.specs.Lines.{inOrder, lineAt}
+use Rattle.lines.specs.Steps.{lineNumbers, Room, Ordered, Lined, Numbered}
 use Rattle.lines.proofs.lines.Statement.{statement}
 use Rattle.lines.proofs.lines.Tie as tie
 

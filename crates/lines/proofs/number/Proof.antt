@@ -10,7 +10,8 @@ use lib.ListN.{length, getD, set, length-set}
 use Rattle.lists.specs.Lists.{below, written}
 use Rattle.lists.proofs.Written.{written-more}
 use Rattle.lists.proofs.Keep.{length-values, values-more}
-use Rattle.lines.specs.Lines.{inOrder, exceeds, lineAt, linesTo, Lined}
+use Rattle.lines.specs.Lines.{inOrder, exceeds, lineAt, linesTo}
+use Rattle.lines.specs.Steps.{Lined}
 use Rattle.lines.proofs.Sorted.{prior, line-next, line-low, lines-count}
 use Rattle.lines.proofs.number.Statement.{statement}
 use Rattle.lines.proofs.number.Tie as tie

@@ -1,4 +1,4 @@
--- `pairs::indexes_below` meets its contract. The invariant: every number that was passed is an index below n. Assumes nothing.
+-- `pairs::indexes_below` meets its contract. The invariant: every number that was passed is an index below n.
 use mathlib.Core.Path.{_≡_, sym}
 use mathlib.Core.Bool.{true}
 use Prim.Native.Nat.{ℕ, _-_, _≤_, _<_}

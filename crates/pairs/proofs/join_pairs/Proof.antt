@@ -1,4 +1,4 @@
--- `pairs::join_pairs` meets its contract: each turn joins one pair more, and all pairs are the whole rule. Assumes nothing.
+-- `pairs::join_pairs` meets its contract: each turn joins one pair more, and all pairs are the whole rule.
 use mathlib.Core.Path.{_≡_, refl, _∙_, subst}
 use mathlib.Core.Bool.{true, false≢true}
 use mathlib.Core.List.{List}
@@ -10,8 +10,7 @@ use lib.ListN.{length, getD}
 use borrow.Author.Needs.{scaled-fits}
 use Rattle.lists.specs.Lists.{below, written}
 use Rattle.sets.specs.Closed.{Below}
-use Rattle.sets.specs.Joins.{Joins}
-use Rattle.sets.specs.Parents.{Room}
+use Rattle.sets.specs.Steps.{Joins, Room}
 use Rattle.sets.proofs.Joins.{joins-none}
 use Rattle.pairs.specs.Pairs.{Paired, IndexesBelow}
 use Rattle.pairs.proofs.Rule.{pair-joined}

@@ -1,4 +1,4 @@
--- `pairs::pair_sets` meets its contract: accepted, all pairs are joined and the roots listed; refused, nothing happens. Assumes nothing.
+-- `pairs::pair_sets` meets its contract: accepted, all pairs are joined and the roots listed; refused, nothing happens.
 use mathlib.Core.Path.{_≡_, sym, ap₂, _∙_}
 use mathlib.Core.Bool.{true, false, _&&_}
 use mathlib.Core.List.{List}
@@ -11,9 +11,7 @@ use Rattle.lists.specs.Lists.{roomFor}
 use Rattle.lists.proofs.Rooms.{rooms}
 use Rattle.lists.proofs.Every.{and-first, and-second, every-at}
 use Rattle.sets.specs.Closed.{Below}
-use Rattle.sets.specs.Joins.{Joins}
-use Rattle.sets.specs.Listing.{Listing}
-use Rattle.sets.specs.Parents.{Room}
+use Rattle.sets.specs.Steps.{Joins, Listing, Room}
 use Rattle.sets.proofs.Answers.{accepted, refused}
 use Rattle.sets.proofs.Grown.{closedSets-listed}
 use Rattle.sets.proofs.Listings.{joins-closedSets}

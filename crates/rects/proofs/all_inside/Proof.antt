@@ -1,4 +1,4 @@
--- `rects::all_inside` meets its contract. The invariant: whether every rectangle that was passed is inside. Assumes nothing.
+-- `rects::all_inside` meets its contract. The invariant: whether every rectangle that was passed is inside.
 use mathlib.Core.Path.{_≡_, refl, sym, ap, ap₂, _∙_}
 use mathlib.Core.Bool.{Bool, true, _&&_}
 use mathlib.Core.List.{List}

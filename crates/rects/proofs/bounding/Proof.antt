@@ -1,4 +1,4 @@
--- `rects::bounding` meets its contract. The invariant: r, with the rectangles at the places that are left, makes the whole. Assumes nothing.
+-- `rects::bounding` meets its contract. The invariant: r, with the rectangles at the places that are left, makes the whole.
 use mathlib.Core.Path.{_≡_, refl, sym, ap, ap₂, _∙_}
 use Prim.Native.Nat.{ℕ, _+_, _-_, _*_, _≤_, _<_}
 use native.Mathlib.Omega.{arith}

@@ -1,4 +1,4 @@
--- `rects::put_rect` meets its contract: four stores, one after the other. Assumes nothing.
+-- `rects::put_rect` meets its contract: four stores, one after the other.
 use Prim.Native.Nat.{_*_}
 use native.Mathlib.Omega.{arith}
 use borrow.Author.Needs.{needs}

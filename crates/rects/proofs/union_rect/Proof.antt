@@ -1,4 +1,4 @@
--- `rects::union_rect` meets its contract, side by side. Assumes nothing.
+-- `rects::union_rect` meets its contract, side by side.
 use borrow.Author.Needs.{needs}
 use Rattle.rects.proofs.union_rect.Statement.{statement}
 use Rattle.rects.proofs.union_rect.Tie as tie

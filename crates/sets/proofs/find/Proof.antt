@@ -4,7 +4,7 @@ use mathlib.Core.List.{List}
 use Prim.Native.Nat.{ℕ, _≤_, _<_, _^_}
 use native.Mathlib.Omega.{arith}
 use lib.ListN.{length, getD, set, length-set}
-use Rattle.sets.specs.Parents.{Parents, root, SameRoots, Found}
+use Rattle.sets.specs.Steps.{Parents, root, SameRoots, Found}
 use Rattle.sets.proofs.Roots.{root-parent, root-stays, halved, same-trans}
 use Rattle.sets.proofs.find.Statement.{statement}
 use Rattle.sets.proofs.find.Tie as tie

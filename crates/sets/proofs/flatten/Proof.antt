@@ -9,7 +9,7 @@ use lib.ListN.{length, getD, set, length-set}
 use Rattle.lists.specs.Lists.{below, written}
 use Rattle.lists.proofs.Keep.{length-values, getD-values, values-more}
 use Rattle.lists.proofs.Written.{written-at, written-past, written-more}
-use Rattle.sets.specs.Parents.{Parents, root}
+use Rattle.sets.specs.Steps.{Parents, root}
 use Rattle.sets.proofs.Roots.{root-parent, root-stays}
 use Rattle.sets.proofs.flatten.Statement.{statement}
 use Rattle.sets.proofs.flatten.Tie as tie

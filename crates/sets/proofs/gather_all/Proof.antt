@@ -10,8 +10,8 @@ use lib.ListN.{length, set, length-set, length-append}
 use lib.Seq.{sets, length-sets}
 use Rattle.lists.specs.Lists.{concat, written}
 use Rattle.lists.proofs.Written.{written-more, written-run}
-use Rattle.sets.specs.Listing.{classOf, endsFrom}
-use Rattle.sets.specs.Threads.{entry, Flat, Threaded, Trail, Fitting, Appended, Gathered}
+use Rattle.sets.specs.Listing.{endsFrom}
+use Rattle.sets.specs.Steps.{classOf, entry, Flat, Threaded, Trail, Fitting, Appended, Gathered}
 use Rattle.sets.proofs.Sizes.{classesTo, classes-all, classes-none, classes-one, classes-past, classes-count, classes-fit, concat-one, length-ends, ends-one}
 use Rattle.sets.proofs.Trails.{threaded-rises, trail-class}
 use Rattle.sets.proofs.gather_all.Statement.{statement}

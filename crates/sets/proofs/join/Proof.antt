@@ -6,7 +6,7 @@ use native.Mathlib.Nat.{le-of-lt}
 use native.Mathlib.Omega.{arith}
 use borrow.Author.Needs.{needs}
 use lib.ListN.{length, length-set}
-use Rattle.sets.specs.Parents.{Parents, root, SameRoots, Found}
+use Rattle.sets.specs.Steps.{Parents, root, SameRoots, Found}
 use Rattle.sets.proofs.Roots.{root-le, same-trans, join-roots, join-swap}
 use Rattle.sets.proofs.join.Statement.{statement}
 use Rattle.sets.proofs.join.Tie as tie

@@ -6,9 +6,8 @@ use lib.ListN.{length, replicate, length-replicate, getD-replicate}
 use borrow.Author.Needs.{needs}
 use Rattle.lists.specs.Lists.{below, written, concat}
 use Rattle.lists.proofs.Written.{written-length, written-at}
-use Rattle.sets.specs.Listing.{classes, endsFrom, Listing}
-use Rattle.sets.specs.Parents.{Parents, root}
-use Rattle.sets.specs.Threads.{entry, Unthreaded, Gathered}
+use Rattle.sets.specs.Listing.{endsFrom}
+use Rattle.sets.specs.Steps.{classes, Listing, Parents, root, entry, Unthreaded, Gathered}
 use Rattle.sets.proofs.Classes.{classes-same}
 use Rattle.sets.proofs.Labels.{label, flattened}
 use Rattle.sets.proofs.list.Statement.{statement}

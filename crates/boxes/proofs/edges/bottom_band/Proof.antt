@@ -1,4 +1,4 @@
--- `edges::bottom_band` meets its contract. Assumes nothing.
+-- `edges::bottom_band` meets its contract.
 use borrow.Author.Needs.{needs}
 use Rattle.boxes.proofs.edges.bottom_band.Statement.{statement}
 use Rattle.boxes.proofs.edges.bottom_band.Tie as tie

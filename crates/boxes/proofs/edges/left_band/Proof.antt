@@ -1,4 +1,4 @@
--- `edges::left_band` meets its contract. Assumes nothing.
+-- `edges::left_band` meets its contract.
 use borrow.Author.Needs.{needs}
 use Rattle.boxes.proofs.edges.left_band.Statement.{statement}
 use Rattle.boxes.proofs.edges.left_band.Tie as tie

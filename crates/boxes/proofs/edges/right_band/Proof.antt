@@ -1,4 +1,4 @@
--- `edges::right_band` meets its contract. Assumes nothing.
+-- `edges::right_band` meets its contract.
 use borrow.Author.Needs.{needs}
 use Rattle.boxes.proofs.edges.right_band.Statement.{statement}
 use Rattle.boxes.proofs.edges.right_band.Tie as tie

@@ -1,4 +1,4 @@
--- `edges::share` meets its contract. Assumes nothing.
+-- `edges::share` meets its contract.
 use borrow.Author.Needs.{needs}
 use mathlib.Core.Path.{_≡_, refl, sym, ap, ap₂, _∙_}
 use Prim.Native.Nat.{ℕ}

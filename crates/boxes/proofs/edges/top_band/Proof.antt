@@ -1,4 +1,4 @@
--- `edges::top_band` meets its contract. Assumes nothing.
+-- `edges::top_band` meets its contract.
 use borrow.Author.Needs.{needs}
 use Rattle.boxes.proofs.edges.top_band.Statement.{statement}
 use Rattle.boxes.proofs.edges.top_band.Tie as tie

@@ -1,4 +1,4 @@
--- `found::test_frame` meets its contract: each way out is the test that it follows. Assumes nothing.
+-- `found::test_frame` meets its contract: each way out is the test that it follows.
 use borrow.Author.Needs.{needs}
 use mathlib.Core.Path.{_≡_, refl, sym, ap, ap₂, _∙_}
 use Rattle.ink.specs.Ink.{inkAt}

@@ -1,4 +1,4 @@
--- `frame::frame_of` meets its contract: the first line over the limit from each end. Assumes nothing.
+-- `frame::frame_of` meets its contract: the first line over the limit from each end.
 use borrow.Author.Needs.{needs}
 use Prim.Native.Nat.{ℕ, _+_, _-_, _≤_, _<_}
 use native.Mathlib.Omega.{arith}

@@ -1,4 +1,4 @@
--- `guard::missed` meets its contract: question 14 is asked where none before it is missed. Assumes nothing.
+-- `guard::missed` meets its contract: question 14 is asked where none before it is missed.
 use borrow.Author.Needs.{needs}
 use mathlib.Core.Path.{_≡_, refl, sym, ap, _∙_}
 use mathlib.Core.Bool.{Bool, true, false, cond}

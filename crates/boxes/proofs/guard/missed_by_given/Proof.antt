@@ -1,4 +1,4 @@
--- `guard::missed_by_given` meets its contract: at each way out the questions before it were answered yes, and its own was answered no. Assumes nothing.
+-- `guard::missed_by_given` meets its contract: at each way out the questions before it were answered yes, and its own was answered no.
 use borrow.Author.Needs.{needs}
 use mathlib.Core.Path.{_≡_, refl, sym, _∙_}
 use mathlib.Core.Bool.{Bool, true, false, cond, _&&_}

@@ -1,4 +1,4 @@
--- `inner::inner_half` meets its contract. Assumes nothing.
+-- `inner::inner_half` meets its contract.
 use borrow.Author.Needs.{needs}
 use mathlib.Core.Path.{ap, _∙_}
 use Prim.Native.Nat.{ℕ, _+_, _-_, _/_}

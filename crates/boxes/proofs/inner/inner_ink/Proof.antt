@@ -1,8 +1,9 @@
--- `inner::inner_ink` meets its contract: the inner half can be read, and has a place at least. Assumes nothing.
+-- `inner::inner_ink` meets its contract: the inner half can be read, and has a place at least.
 use borrow.Author.Needs.{needs}
 use mathlib.Core.Path.{_≡_, refl, sym, ap, ap₂, _∙_}
 use native.Mathlib.Omega.{arith}
-use Rattle.ink.specs.Ink.{inkAt, Readable}
+use Rattle.ink.specs.Ink.{inkAt}
+use Rattle.ink.specs.Steps.{Readable}
 use Rattle.boxes.proofs.Halves.{inner-readable, small-product, share-is}
 use Rattle.boxes.proofs.inner.inner_ink.Statement.{statement}
 use Rattle.boxes.proofs.inner.inner_ink.Tie as tie

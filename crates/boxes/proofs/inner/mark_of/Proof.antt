@@ -1,4 +1,4 @@
--- `inner::mark_of` meets its contract. Assumes nothing.
+-- `inner::mark_of` meets its contract.
 use Rattle.boxes.proofs.inner.mark_of.Statement.{statement}
 use Rattle.boxes.proofs.inner.mark_of.Tie as tie
 

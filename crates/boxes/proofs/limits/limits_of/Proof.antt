@@ -1,4 +1,4 @@
--- `limits::limits_of` meets its contract, field by field. Assumes nothing.
+-- `limits::limits_of` meets its contract, field by field.
 use borrow.Author.Needs.{needs}
 use mathlib.Core.Path.{_≡_, refl, sym, ap, ap₂, _∙_}
 use lib.Ieee.{binary64, mul}

@@ -1,4 +1,4 @@
--- `sizes::aspect_missed` meets its contract. Assumes nothing.
+-- `sizes::aspect_missed` meets its contract.
 use borrow.Author.Needs.{needs}
 use mathlib.Core.Path.{_≡_, refl, sym, ap, ap₂, _∙_}
 use lib.Ieee.{Float, binary64, lt, mul}

@@ -1,4 +1,4 @@
--- `sizes::size_missed` meets its contract: the first test that holds decides. Assumes nothing.
+-- `sizes::size_missed` meets its contract: the first test that holds decides.
 use borrow.Author.Needs.{needs}
 use Rattle.boxes.specs.Tests.{sizeMissed}
 use Rattle.boxes.proofs.sizes.size_missed.Statement.{statement}

@@ -1,4 +1,4 @@
--- `write::find` meets its contract: after k turns the boxes of the first k glyph boxes are written. Assumes nothing.
+-- `write::find` meets its contract: after k turns the boxes of the first k glyph boxes are written.
 use mathlib.Core.Path.{_≡_, refl, sym, ap, ap₂, _∙_}
 use Prim.Native.Nat.{_-_, _/_}
 use native.Mathlib.Omega.{arith}

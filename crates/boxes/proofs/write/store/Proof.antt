@@ -1,4 +1,4 @@
--- `write::store` meets its contract: nothing or one box more. Assumes nothing.
+-- `write::store` meets its contract: nothing or one box more.
 use borrow.Author.Needs.{needs}
 use Rattle.boxes.proofs.Listing.{stored-none, stored-one}
 use Rattle.boxes.proofs.write.store.Statement.{statement}

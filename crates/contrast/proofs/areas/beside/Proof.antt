@@ -1,4 +1,4 @@
--- `contrast::areas::beside` meets its contract: two strips of rows, or two of columns. Assumes nothing.
+-- `contrast::areas::beside` meets its contract: two strips of rows, or two of columns.
 use borrow.Author.Needs.{needs}
 use Rattle.contrast.proofs.Sampling.{sampled-rows, sampled-columns}
 use Rattle.contrast.proofs.areas.beside.Statement.{statement}

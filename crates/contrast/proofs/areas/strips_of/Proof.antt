@@ -1,4 +1,4 @@
--- `contrast::areas::strips_of` meets its contract: the two runs of the law `beside-runs`. Assumes nothing.
+-- `contrast::areas::strips_of` meets its contract: the two runs of the law `beside-runs`.
 use Prim.Native.Nat.{_-_}
 use native.Mathlib.Omega.{arith}
 use borrow.Author.Needs.{needs}

@@ -1,4 +1,4 @@
--- `contrast::columns::darken` meets its contract: the first i entries are done, and the rest are as they were. Assumes nothing.
+-- `contrast::columns::darken` meets its contract: the first i entries are done, and the rest are as they were.
 use mathlib.Core.Path.{_≡_, refl}
 use Prim.Native.Nat.{_-_, _≤_, _<_}
 use native.Mathlib.Omega.{arith}

@@ -1,9 +1,9 @@
--- `contrast::columns::darken_rows` meets its contract: after k turns the entries are the darkest pixels of the first k rows. Assumes nothing.
+-- `contrast::columns::darken_rows` meets its contract: after k turns the entries are the darkest pixels of the first k rows.
 use mathlib.Core.Path.{_≡_, refl, _∙_}
 use Prim.Native.Nat.{_+_, _-_, _*_, _≤_}
 use native.Mathlib.Omega.{arith}
 use lib.ListN.{length}
-use Rattle.contrast.specs.Counting.{Darkened}
+use Rattle.contrast.specs.Steps.{Darkened}
 use Rattle.contrast.proofs.Lines.{darkened-more}
 use Rattle.contrast.proofs.columns.darken_rows.Statement.{statement}
 use Rattle.contrast.proofs.columns.darken_rows.Tie as tie

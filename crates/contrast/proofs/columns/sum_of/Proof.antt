@@ -1,4 +1,4 @@
--- `contrast::columns::sum_of` meets its contract: after i turns `sum` is that of the first i values. Assumes nothing.
+-- `contrast::columns::sum_of` meets its contract: after i turns `sum` is that of the first i values.
 use mathlib.Core.Path.{_≡_, refl, ap}
 use Prim.Native.Nat.{_-_, _*_, _≤_}
 use native.Mathlib.Omega.{arith}

@@ -1,10 +1,10 @@
--- `contrast::columns::sum_of_columns` meets its contract: `sum` is that of the first i columns. Assumes nothing.
+-- `contrast::columns::sum_of_columns` meets its contract: `sum` is that of the first i columns.
 use mathlib.Core.Path.{_≡_, refl}
 use Prim.Native.Nat.{_+_, _-_, _*_, _≤_, _<_}
 use native.Mathlib.Omega.{arith}
 use lib.ListN.{length}
 use Rattle.math.specs.Sum.{total}
-use Rattle.contrast.specs.Counting.{columnsDarkest}
+use Rattle.contrast.specs.Steps.{columnsDarkest}
 use Rattle.contrast.proofs.Lines.{sum-split, columns-le, part-inside}
 use Rattle.contrast.proofs.columns.sum_of_columns.Statement.{statement}
 use Rattle.contrast.proofs.columns.sum_of_columns.Tie as tie

@@ -1,4 +1,4 @@
--- `contrast::columns::sum_of_part` meets its contract: the entries are the darkest pixels of the columns. Assumes nothing.
+-- `contrast::columns::sum_of_part` meets its contract: the entries are the darkest pixels of the columns.
 use mathlib.Core.Path.{_∙_}
 use native.Mathlib.Omega.{arith}
 use borrow.Author.Needs.{needs}

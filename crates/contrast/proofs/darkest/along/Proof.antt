@@ -1,4 +1,4 @@
--- `contrast::darkest::along` meets its contract. Assumes nothing.
+-- `contrast::darkest::along` meets its contract.
 use borrow.Author.Needs.{needs}
 use Rattle.contrast.proofs.darkest.along.Statement.{statement}
 use Rattle.contrast.proofs.darkest.along.Tie as tie

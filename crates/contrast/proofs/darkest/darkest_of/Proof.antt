@@ -1,11 +1,11 @@
--- `contrast::darkest::darkest_of` meets its contract: after k turns `least` is the darkest of the first k pixels. Assumes nothing.
+-- `contrast::darkest::darkest_of` meets its contract: after k turns `least` is the darkest of the first k pixels.
 use mathlib.Core.Path.{_≡_, refl, ap, _∙_}
 use mathlib.Core.Logic.{⊎-elim}
 use Prim.Native.Nat.{_+_, _-_, _≤_, min}
 use native.Mathlib.Omega.{arith}
 use lib.ListN.{getD}
 use Rattle.contrast.specs.Pixels.{darkestOf}
-use Rattle.contrast.specs.Counting.{line}
+use Rattle.contrast.specs.Steps.{line}
 use Rattle.contrast.proofs.Lines.{darkest-more}
 use Rattle.contrast.proofs.Pixels.{row-more}
 use Rattle.contrast.proofs.darkest.darkest_of.Statement.{statement}

@@ -1,4 +1,4 @@
--- `contrast::darkest::darkest_sum` meets its contract: a ruling's pixels across it are lines of the raster. Assumes nothing.
+-- `contrast::darkest::darkest_sum` meets its contract: a ruling's pixels across it are lines of the raster.
 use mathlib.Core.Path.{_∙_}
 use Prim.Native.Nat.{_+_, _*_, _<_, _≤_}
 use native.Mathlib.Omega.{arith}

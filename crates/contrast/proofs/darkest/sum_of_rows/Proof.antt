@@ -1,10 +1,10 @@
--- `contrast::darkest::sum_of_rows` meets its contract: after i turns `sum` is that of the first i rows. Assumes nothing.
+-- `contrast::darkest::sum_of_rows` meets its contract: after i turns `sum` is that of the first i rows.
 use mathlib.Core.Path.{_≡_, refl}
 use Prim.Native.Nat.{_+_, _-_, _*_, _≤_}
 use native.Mathlib.Omega.{arith}
 use lib.ListN.{length}
 use Rattle.math.specs.Sum.{total}
-use Rattle.contrast.specs.Counting.{line, rowsDarkest}
+use Rattle.contrast.specs.Steps.{line, rowsDarkest}
 use Rattle.contrast.proofs.Lines.{sum-more, darkest-le}
 use Rattle.contrast.proofs.darkest.sum_of_rows.Statement.{statement}
 use Rattle.contrast.proofs.darkest.sum_of_rows.Tie as tie

@@ -1,4 +1,4 @@
--- `contrast::level::level` meets its contract: `at_least` is the number of samples of at least v, and fewer than half are larger. Assumes nothing.
+-- `contrast::level::level` meets its contract: `at_least` is the number of samples of at least v, and fewer than half are larger.
 use mathlib.Core.Path.{_≡_, refl}
 use Prim.Native.Nat.{ℕ, _+_, _-_, _^_, _≤_, _<_}
 use native.Mathlib.Nat.{sub-add-cancel}
@@ -7,7 +7,7 @@ use mathlib.Core.List.{List}
 use mathlib.Core.Logic.{_⊎_, inl, inr}
 use lib.Dec.{leb}
 use lib.ListN.{length, getD}
-use Rattle.contrast.specs.Counting.{many, Tallied}
+use Rattle.contrast.specs.Steps.{many, Tallied}
 use Rattle.contrast.proofs.Levels.{count-le, brightest, above-zero, next-down, level-is}
 use Rattle.contrast.proofs.level.level.Statement.{statement}
 use Rattle.contrast.proofs.level.level.Tie as tie

@@ -1,10 +1,10 @@
--- `contrast::samples::count_area` meets its contract: after k turns the first k rows are counted. Assumes nothing.
+-- `contrast::samples::count_area` meets its contract: after k turns the first k rows are counted.
 use mathlib.Core.Path.{_≡_, refl, _∙_}
 use Prim.Native.Nat.{_+_, _-_, _*_, _≤_}
 use native.Mathlib.Omega.{arith}
 use lib.ListN.{length}
 use Rattle.contrast.specs.Pixels.{run, pixelsIn}
-use Rattle.contrast.specs.Counting.{Counted}
+use Rattle.contrast.specs.Steps.{Counted}
 use Rattle.contrast.proofs.Many.{counted-none}
 use Rattle.contrast.proofs.Pixels.{row-inside}
 use Rattle.contrast.proofs.Sampling.{room-left, area-more}

@@ -1,9 +1,9 @@
--- `contrast::samples::count_row` meets its contract: after i turns the first i pixels are counted. Assumes nothing.
+-- `contrast::samples::count_row` meets its contract: after i turns the first i pixels are counted.
 use mathlib.Core.Path.{_≡_, refl}
 use Prim.Native.Nat.{_+_, _-_, _≤_, _<_}
 use native.Mathlib.Omega.{arith}
 use lib.ListN.{length, getD, length-set}
-use Rattle.contrast.specs.Counting.{line, Counted}
+use Rattle.contrast.specs.Steps.{line, Counted}
 use Rattle.contrast.proofs.Many.{counted-none, counted-more}
 use Rattle.contrast.proofs.Pixels.{row-more, counted-fits}
 use Rattle.contrast.proofs.samples.count_row.Statement.{statement}

@@ -1,10 +1,10 @@
--- `contrast::samples::sample` meets its contract: two areas are counted, and hold the samples between them. Assumes nothing.
+-- `contrast::samples::sample` meets its contract: two areas are counted, and hold the samples between them.
 use mathlib.Core.Path.{sym}
 use Prim.Native.Nat.{_*_}
 use native.Mathlib.Omega.{arith}
 use borrow.Author.Needs.{needs}
 use Rattle.contrast.specs.Pixels.{samples}
-use Rattle.contrast.specs.Counting.{pixelsOf}
+use Rattle.contrast.specs.Steps.{pixelsOf}
 use Rattle.contrast.proofs.Many.{tallied}
 use Rattle.contrast.proofs.Sampling.{room-first, room-second}
 use Rattle.contrast.proofs.samples.sample.Statement.{statement}

@@ -7,7 +7,8 @@ use lib.Seq.{sets}
 use borrow.Author.Needs.{scaled-fits}
 use Rattle.rects.specs.declared.Rect.{Rect}
 use Rattle.layout.specs.ToPage.{rectToPage}
-use Rattle.findings.specs.Keys.{pageKey, foldKey}
+use Rattle.findings.specs.Keys.{pageKey}
+use Rattle.findings.specs.Steps.{foldKey}
 use Rattle.findings.proofs.KeyLoop.{Keyed, keyed-none, keyed-more, keyed-long, keyed-all, at-places}
 use Rattle.findings.proofs.fold_findings.keys.Statement.{statement}
 use Rattle.findings.proofs.fold_findings.keys.Tie as tie

@@ -7,7 +7,7 @@ use native.Mathlib.Omega.{arith}
 use lib.Dec.{eqb}
 use lib.ListN.{length, getD}
 use Rattle.lists.specs.Lists.{keep}
-use Rattle.findings.specs.Made.{Rulings}
+use Rattle.findings.specs.Made.{RulingLists}
 use Rattle.findings.proofs.OnPage.{placed-most}
 use Rattle.findings.proofs.Given.{places-given, set-inside, rects-given}
 use Rattle.findings.proofs.Free.{both-counted, from-facts}
@@ -55,7 +55,7 @@ free-finding-requires c κs = search needs
 returns : tie.Need-returns
 returns c =
     let a = c .before .before .before .before .before .before .before .before .before .before .args in
-    let r : Rulings = record { rects = a .rects .now; directions = a .directions .now; contrasts = a .contrasts .now } in
+    let r : RulingLists = record { rects = a .rects .now; directions = a .directions .now; contrasts = a .contrasts .now } in
     from-facts (record { sides = a .sides; shear = a .shear .now; shear-x = a .shear-x .now; settings = a .p; caps = a .f }) r (a .places .now) (c .free-finding .ensures) (c .before .before .before .before .on-page .ensures) (c .before .before .before .before .before .bounding .ensures)
     (c .before .before .before .count-equal .ensures) (rest (λ k. eqb (getD (a .directions .now) k 0) 0) (a .places .now) (c .before .before .before .count-equal .ensures)) (c .before .before .longest .ensures) (c .before .mean .ensures)
 

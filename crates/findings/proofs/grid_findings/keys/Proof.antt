@@ -10,13 +10,13 @@ use borrow.Author.Needs.{scaled-fits}
 use Rattle.lists.specs.Lists.{below}
 use Rattle.lists.proofs.Keep.{map-map, by-place}
 use Rattle.rects.specs.declared.Rect.{Rect}
-use Rattle.rects.specs.Rects.{Inside}
-use Rattle.rects.specs.Around.{around, Places}
+use Rattle.rects.specs.Steps.{Inside, Places}
+use Rattle.rects.specs.Around.{around}
 use Rattle.sets.specs.Listing.{membersOf}
 use Rattle.layout.specs.declared.sides.Sides.{Sides}
 use Rattle.layout.specs.ToPage.{rectToPage}
-use Rattle.findings.specs.Keys.{pageKey, gridKey}
-use Rattle.findings.specs.Steps.{SetGiven, GridRectsGiven}
+use Rattle.findings.specs.Keys.{pageKey}
+use Rattle.findings.specs.Steps.{gridKey, SetGiven, GridRectsGiven}
 use Rattle.findings.proofs.Given.{places-given, set-inside}
 use Rattle.findings.proofs.KeyLoop.{Keyed, keyed-none, keyed-more, keyed-long, keyed-all}
 use Rattle.findings.proofs.grid_findings.keys.Statement.{statement}

@@ -7,7 +7,8 @@ use borrow.Author.Needs.{scaled-fits}
 use Rattle.rects.specs.declared.Rect.{Rect}
 use Rattle.rects.specs.Rects.{count}
 use Rattle.layout.specs.ToPage.{rectToPage}
-use Rattle.findings.specs.Keys.{pageKey, tableKey}
+use Rattle.findings.specs.Keys.{pageKey}
+use Rattle.findings.specs.Steps.{tableKey}
 use Rattle.findings.proofs.KeyLoop.{Keyed, keyed-none, keyed-more, keyed-long, keyed-all}
 use Rattle.findings.proofs.table_findings.keys.Statement.{statement}
 use Rattle.findings.proofs.table_findings.keys.Tie as tie

@@ -5,7 +5,7 @@ use native.Mathlib.Omega.{arith}
 use denote.Ref.{now}
 use Rattle.rects.specs.Rects.{count}
 use Rattle.finding_lists.proofs.Writing.{Writing, writing-none, writing-room, writing-more, writing-long, writing-all}
-use Rattle.findings.specs.Made.{Scan, Tables, tableAt}
+use Rattle.findings.specs.Made.{Scan, TableLists, tableAt}
 use Rattle.findings.proofs.table_findings.write.Statement.{statement}
 use Rattle.findings.proofs.table_findings.write.Tie as tie
 
@@ -22,7 +22,7 @@ loop-holds c =
     let s = c .before .before .before .before .before .before .before in
     let a = s .args in
     let scan : Scan = record { sides = a .sides; shear = a .shear .now; shear-x = a .shear-x .now; settings = a .p; caps = a .f } in
-    let found : Tables = record { bounds = a .bounds .now; rows = a .rows .now; columns = a .columns .now; rulings = a .rulings .now; shares = a .shares .now } in
+    let found : TableLists = record { bounds = a .bounds .now; rows = a .rows .now; columns = a .columns .now; rulings = a .rulings .now; shares = a .shares .now } in
     writing-none (tableAt scan found) (s .pre .1)
 
 finding-requires : tie.Need-finding-requires Inv-loop μ-loop
@@ -36,7 +36,7 @@ put-ranked-requires c κs =
     let s = c .before .before .before .before .before .before .before .before .before .before .before .before .before in
     let a = s .args in
     let scan : Scan = record { sides = a .sides; shear = a .shear .now; shear-x = a .shear-x .now; settings = a .p; caps = a .f } in
-    let found : Tables = record { bounds = a .bounds .now; rows = a .rows .now; columns = a .columns .now; rulings = a .rulings .now; shares = a .shares .now } in
+    let found : TableLists = record { bounds = a .bounds .now; rows = a .rows .now; columns = a .columns .now; rulings = a .rulings .now; shares = a .shares .now } in
     writing-room (tableAt scan found) (s .pre .1) (c .before .before .before .before .before .loop .inv) (c .before .before .before .before .loop-test .taken)
 
 add-k : tie.Need-add-k Inv-loop μ-loop
@@ -50,7 +50,7 @@ loop-again c =
     let s = c .before .before .before .before .before .before .before .before .before .before .before .before .before .before .before .before in
     let a = s .args in
     let scan : Scan = record { sides = a .sides; shear = a .shear .now; shear-x = a .shear-x .now; settings = a .p; caps = a .f } in
-    let found : Tables = record { bounds = a .bounds .now; rows = a .rows .now; columns = a .columns .now; rulings = a .rulings .now; shares = a .shares .now } in
+    let found : TableLists = record { bounds = a .bounds .now; rows = a .rows .now; columns = a .columns .now; rulings = a .rulings .now; shares = a .shares .now } in
     writing-more (tableAt scan found) (s .pre .1) (c .before .before .before .before .before .before .before .before .loop .inv) (c .before .before .before .before .before .before .before .loop-test .taken) (c .before .before .before .before .before .before .finding .ensures) (c .before .before .put-ranked .ensures)
 
 same-length : tie.Need-same-length Inv-loop μ-loop
@@ -58,7 +58,7 @@ same-length c =
     let s = c .before .before .before .before .before .before .before .before .before in
     let a = s .args in
     let scan : Scan = record { sides = a .sides; shear = a .shear .now; shear-x = a .shear-x .now; settings = a .p; caps = a .f } in
-    let found : Tables = record { bounds = a .bounds .now; rows = a .rows .now; columns = a .columns .now; rulings = a .rulings .now; shares = a .shares .now } in
+    let found : TableLists = record { bounds = a .bounds .now; rows = a .rows .now; columns = a .columns .now; rulings = a .rulings .now; shares = a .shares .now } in
     writing-long (tableAt scan found) (s .pre .1) (c .before .loop .inv)
 
 returns : tie.Need-returns Inv-loop μ-loop
@@ -66,7 +66,7 @@ returns c =
     let s = c .before .before .before .before .before .before .before .before .before in
     let a = s .args in
     let scan : Scan = record { sides = a .sides; shear = a .shear .now; shear-x = a .shear-x .now; settings = a .p; caps = a .f } in
-    let found : Tables = record { bounds = a .bounds .now; rows = a .rows .now; columns = a .columns .now; rulings = a .rulings .now; shares = a .shares .now } in
+    let found : TableLists = record { bounds = a .bounds .now; rows = a .rows .now; columns = a .columns .now; rulings = a .rulings .now; shares = a .shares .now } in
     writing-all (tableAt scan found) (s .pre .1) (c .before .loop .inv) (c .loop-test .left)
 
 pub write-spec : {M : Type 1} → statement M

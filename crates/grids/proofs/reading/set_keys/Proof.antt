@@ -8,7 +8,8 @@ use lib.Seq.{take-all}
 use Rattle.lists.specs.Lists.{written}
 use Rattle.lists.proofs.Keep.{at-in}
 use Rattle.rects.specs.declared.Rect.{Rect}
-use Rattle.rects.specs.Rects.{count, rectAt, Inside}
+use Rattle.rects.specs.Rects.{count, rectAt}
+use Rattle.rects.specs.Steps.{Inside}
 use Rattle.rects.proofs.Questions.{has-numbers}
 use Rattle.grids.specs.Reading.{readingKey, readingKeys}
 use Rattle.grids.specs.Steps.{PassedBoxes, Indexes}

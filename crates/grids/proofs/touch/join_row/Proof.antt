@@ -8,8 +8,7 @@ use native.Mathlib.Omega.{arith}
 use lib.ListN.{length}
 use Rattle.rects.specs.Rects.{count}
 use Rattle.sets.specs.Closed.{Below}
-use Rattle.sets.specs.Joins.{Joins, Seen}
-use Rattle.sets.specs.Parents.{Joined}
+use Rattle.sets.specs.Steps.{Joins, Seen, Joined}
 use Rattle.sets.proofs.Pairs.{pair-next}
 use Rattle.grids.specs.Boxes.{touch, Touch}
 use Rattle.grids.specs.Steps.{PassedBoxes, Next}

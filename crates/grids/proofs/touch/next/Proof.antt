@@ -10,7 +10,8 @@ use lib.Dec.{eqb}
 use lib.ListN.{length, getD}
 use Rattle.lists.proofs.Every.{and-second}
 use Rattle.rects.specs.declared.Rect.{Rect}
-use Rattle.rects.specs.Rects.{rectAt, Inside}
+use Rattle.rects.specs.Rects.{rectAt}
+use Rattle.rects.specs.Steps.{Inside}
 use Rattle.rects.proofs.Questions.{has-numbers}
 use Rattle.grids.specs.Boxes.{touching, touch}
 use Rattle.grids.specs.Steps.{Next}

@@ -1,4 +1,4 @@
--- `lines::first_line` meets its contract: the first line over the limit from the one in hand on is the first of all. Assumes nothing.
+-- `lines::first_line` meets its contract: the first line over the limit from the one in hand on is the first of all.
 use mathlib.Core.Path.{_≡_, refl, sym, ap, _∙_}
 use mathlib.Core.Bool.{Bool}
 use mathlib.Core.List.{List}
@@ -7,7 +7,8 @@ use native.Mathlib.Omega.{arith}
 use borrow.Author.Needs.{needs}
 use lib.Ieee.{Float}
 use Rattle.rects.specs.declared.Rect.{Rect}
-use Rattle.ink.specs.Ink.{inkAt, lineInk}
+use Rattle.ink.specs.Ink.{inkAt}
+use Rattle.ink.specs.Steps.{lineInk}
 use Rattle.ink.specs.Places.{over, firstFrom, firstPlace}
 use Rattle.ink.proofs.Places.{first-found, first-passed, first-none}
 use Rattle.ink.proofs.lines.first_line.Statement.{statement}

@@ -1,4 +1,4 @@
--- `lines::last_line_end` meets its contract: the last line over the limit before the one in hand is the last of all. Assumes nothing.
+-- `lines::last_line_end` meets its contract: the last line over the limit before the one in hand is the last of all.
 use mathlib.Core.Path.{_≡_, refl, sym, ap, _∙_}
 use mathlib.Core.Bool.{Bool}
 use mathlib.Core.List.{List}
@@ -7,7 +7,8 @@ use native.Mathlib.Omega.{arith}
 use borrow.Author.Needs.{needs}
 use lib.Ieee.{Float}
 use Rattle.rects.specs.declared.Rect.{Rect}
-use Rattle.ink.specs.Ink.{inkAt, lineInk}
+use Rattle.ink.specs.Ink.{inkAt}
+use Rattle.ink.specs.Steps.{lineInk}
 use Rattle.ink.specs.Places.{over, lastEnd}
 use Rattle.ink.proofs.Places.{last-found, last-passed, last-none}
 use Rattle.ink.proofs.lines.last_line_end.Statement.{statement}

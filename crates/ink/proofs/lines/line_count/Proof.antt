@@ -1,8 +1,8 @@
--- `lines::line_count` meets its contract. Assumes nothing.
+-- `lines::line_count` meets its contract.
 use mathlib.Core.Path.{_≡_, ap, subst}
 use mathlib.Core.Bool.{Bool}
 use Prim.Native.Nat.{ℕ, _<_}
-use Rattle.ink.specs.Ink.{linesOf}
+use Rattle.ink.specs.Steps.{linesOf}
 use Rattle.ink.proofs.lines.line_count.Statement.{statement}
 use Rattle.ink.proofs.lines.line_count.Tie as tie
 

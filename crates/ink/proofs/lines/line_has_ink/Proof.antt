@@ -1,8 +1,8 @@
--- `lines::line_has_ink` meets its contract. Assumes nothing.
+-- `lines::line_has_ink` meets its contract.
 use mathlib.Core.Path.{_≡_, ap, subst}
 use mathlib.Core.Bool.{Bool}
 use Prim.Native.Nat.{ℕ, _<_}
-use Rattle.ink.specs.Ink.{linesOf}
+use Rattle.ink.specs.Steps.{linesOf}
 use Rattle.ink.proofs.lines.line_has_ink.Statement.{statement}
 use Rattle.ink.proofs.lines.line_has_ink.Tie as tie
 

@@ -1,4 +1,4 @@
--- `lines::lines_of` meets its contract. Assumes nothing.
+-- `lines::lines_of` meets its contract.
 use borrow.Author.Needs.{needs}
 use Rattle.ink.proofs.lines.lines_of.Statement.{statement}
 use Rattle.ink.proofs.lines.lines_of.Tie as tie

@@ -1,4 +1,4 @@
--- `lines::longer_run` meets its contract. Assumes nothing.
+-- `lines::longer_run` meets its contract.
 use borrow.Author.Needs.{needs}
 use native.Mathlib.Numerals.{add-one}
 use Rattle.ink.proofs.lines.longer_run.Statement.{statement}

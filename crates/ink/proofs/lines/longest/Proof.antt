@@ -1,4 +1,4 @@
--- `lines::longest` meets its contract: `run` is the run that ends at the line in hand, `best` the longest before it. Assumes nothing.
+-- `lines::longest` meets its contract: `run` is the run that ends at the line in hand, `best` the longest before it.
 use mathlib.Core.Path.{_≡_, refl, sym, ap, _∙_}
 use mathlib.Core.Bool.{Bool, cond}
 use mathlib.Core.List.{List}
@@ -7,7 +7,8 @@ use native.Mathlib.Omega.{arith}
 use borrow.Author.Needs.{needs}
 use lib.Dec.{ltb}
 use Rattle.rects.specs.declared.Rect.{Rect}
-use Rattle.ink.specs.Ink.{inkAt, lineInk}
+use Rattle.ink.specs.Ink.{inkAt}
+use Rattle.ink.specs.Steps.{lineInk}
 use Rattle.ink.specs.Places.{runBefore, longestRun}
 use Rattle.ink.proofs.Counts.{lines-le}
 use Rattle.ink.proofs.Runs.{run-none, longest-none, run-le, run-next, longest-next}

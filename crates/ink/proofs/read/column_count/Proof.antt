@@ -1,4 +1,4 @@
--- `read::column_count` meets its contract: after j turns `n` is the ink of the first j places of the column. Assumes nothing.
+-- `read::column_count` meets its contract: after j turns `n` is the ink of the first j places of the column.
 use mathlib.Core.Path.{_≡_, refl, ap, _∙_}
 use Prim.Native.Nat.{ℕ, suc, _+_, _-_, _*_, _≤_, _<_}
 use mathlib.Core.Bool.{Bool, cond}

@@ -1,4 +1,4 @@
--- `read::ink_in` meets its contract: after j turns `n` is the ink of the first j rows. Assumes nothing.
+-- `read::ink_in` meets its contract: after j turns `n` is the ink of the first j rows.
 use mathlib.Core.Path.{_≡_, sym, ap, _∙_}
 use Prim.Native.Nat.{ℕ, _+_, _-_, _*_, _≤_, _<_}
 use native.Mathlib.Omega.{arith}

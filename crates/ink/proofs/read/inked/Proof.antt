@@ -1,4 +1,4 @@
--- `read::inked` meets its contract: after i turns `n` is how many of the first i bytes are ink. Assumes nothing.
+-- `read::inked` meets its contract: after i turns `n` is how many of the first i bytes are ink.
 use mathlib.Core.Path.{_≡_, refl, ap, _∙_}
 use mathlib.Core.Bool.{Bool, not, cond}
 use Prim.Native.Nat.{ℕ, suc, _+_, _-_, _≤_}

@@ -1,4 +1,4 @@
--- `read::is_ink` meets its contract: it reads the byte of the place. Assumes nothing.
+-- `read::is_ink` meets its contract: it reads the byte of the place.
 use mathlib.Core.Path.{refl}
 use borrow.Author.Needs.{needs}
 use Rattle.ink.specs.Ink.{inkAt}

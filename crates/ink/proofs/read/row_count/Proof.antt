@@ -1,4 +1,4 @@
--- `read::row_count` meets its contract: the part of the mask holds the row's places and no others. Assumes nothing.
+-- `read::row_count` meets its contract: the part of the mask holds the row's places and no others.
 use mathlib.Core.Path.{_≡_, refl, ap, _∙_}
 use mathlib.Core.Bool.{not}
 use Prim.Native.Nat.{ℕ, _+_, _-_, _*_, _≤_, _<_}

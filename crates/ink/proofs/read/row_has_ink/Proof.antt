@@ -1,4 +1,4 @@
--- `read::row_has_ink` meets its contract: no place that was passed has ink. Assumes nothing.
+-- `read::row_has_ink` meets its contract: no place that was passed has ink.
 use mathlib.Core.Path.{_≡_, sym, ap, _∙_}
 use mathlib.Core.Bool.{Bool, true, false}
 use Prim.Native.Nat.{ℕ, _+_, _-_, _≤_, _<_}

@@ -1,4 +1,4 @@
--- `layout::calls::level_gray` meets its contract: refused, nothing is written; accepted, the core levels. Assumes nothing.
+-- `layout::calls::level_gray` meets its contract: refused, nothing is written; accepted, the core levels.
 use mathlib.Core.Path.{sym, _∙_}
 use native.Mathlib.Omega.{arith}
 use Rattle.layout.proofs.Guards.{level-refused, level-accepted, ready-yes}

@@ -1,4 +1,4 @@
--- `layout::calls::level_question` meets its contract: each return is the first "no". Assumes nothing.
+-- `layout::calls::level_question` meets its contract: each return is the first "no".
 use mathlib.Core.Path.{_≡_, sym, ap₂, _∙_}
 use mathlib.Core.Bool.{true, _&&_}
 use native.Mathlib.Omega.{arith}

@@ -1,4 +1,4 @@
--- `layout::calls::map_question` meets its contract: each return is the first "no". Assumes nothing.
+-- `layout::calls::map_question` meets its contract: each return is the first "no".
 use mathlib.Core.Path.{_≡_, sym, _∙_}
 use mathlib.Core.Bool.{true}
 use borrow.Author.Tests.{not-true, not-false}

@@ -1,13 +1,13 @@
--- `layout::level::level` meets its contract: the rows up to y are levelled. Assumes nothing.
+-- `layout::level::level` meets its contract: the rows up to y are levelled.
 use Prim.Native.Nat.{_-_, _≤_}
 use native.Mathlib.Omega.{arith}
-use Rattle.layout.specs.Steps.{Settled, All}
+use Rattle.layout.specs.Steps.{LevelledArea, All}
 use Rattle.layout.proofs.level.level.Statement.{statement}
 use Rattle.layout.proofs.level.level.Tie as tie
 use Rattle.layout.proofs.Settle.{ready-after, rows-none, rows-then, all-levelled}
 
 abbrev Inv-loop : tie.InvT-loop
-Inv-loop sides gray shear shear-x out₀ h y₀ out y = (y ≤ h) × Settled sides gray shear shear-x All 0 y out₀ out
+Inv-loop sides gray shear shear-x out₀ h y₀ out y = (y ≤ h) × LevelledArea sides gray shear shear-x All 0 y out₀ out
 
 abbrev μ-loop : tie.MeasureT-loop
 μ-loop sides gray shear shear-x out₀ h y₀ out y = h - y

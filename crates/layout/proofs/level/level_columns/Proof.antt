@@ -1,13 +1,13 @@
--- `layout::level::level_columns` meets its contract: the run is levelled in the rows from y0 up to y. Assumes nothing.
+-- `layout::level::level_columns` meets its contract: the run is levelled in the rows from y0 up to y.
 use Prim.Native.Nat.{_+_, _-_, _≤_}
 use native.Mathlib.Omega.{arith}
-use Rattle.layout.specs.Steps.{Settled, Columns}
+use Rattle.layout.specs.Steps.{LevelledArea, Columns}
 use Rattle.layout.proofs.level.level_columns.Statement.{statement}
 use Rattle.layout.proofs.level.level_columns.Tie as tie
 use Rattle.layout.proofs.Settle.{ready-after, rows-none, rows-then, rows-fewer}
 
 abbrev Inv-loop : tie.InvT-loop
-Inv-loop sides gray shear shear-x out₀ from to y0 y1 y₀ out y = (y0 ≤ y) × Settled sides gray shear shear-x (Columns shear-x from to) y0 y out₀ out
+Inv-loop sides gray shear shear-x out₀ from to y0 y1 y₀ out y = (y0 ≤ y) × LevelledArea sides gray shear shear-x (Columns shear-x from to) y0 y out₀ out
 
 abbrev μ-loop : tie.MeasureT-loop
 μ-loop sides gray shear shear-x out₀ from to y0 y1 y₀ out y = y1 - y

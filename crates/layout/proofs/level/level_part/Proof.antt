@@ -1,4 +1,4 @@
--- `layout::level::level_part` meets its contract: the part of the row that the run takes shows the run. Assumes nothing.
+-- `layout::level::level_part` meets its contract: the part of the row that the run takes shows the run.
 use mathlib.Core.Path.{refl}
 use Prim.Native.Nat.{_+_, _-_, _*_, _≤_, _<_}
 use native.Mathlib.Omega.{arith}

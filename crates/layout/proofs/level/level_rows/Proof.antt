@@ -1,15 +1,15 @@
--- `layout::level::level_rows` meets its contract: the margins are white, and the page columns up to x are levelled. Assumes nothing.
+-- `layout::level::level_rows` meets its contract: the margins are white, and the page columns up to x are levelled.
 use mathlib.Core.Path.{_∙_}
 use Prim.Native.Nat.{_-_, _≤_}
 use native.Mathlib.Omega.{arith}
 use lib.ListN.{length}
-use Rattle.layout.specs.Steps.{Settled, Columns}
+use Rattle.layout.specs.Steps.{LevelledArea, Columns}
 use Rattle.layout.proofs.level.level_rows.Statement.{statement}
 use Rattle.layout.proofs.level.level_rows.Tie as tie
 use Rattle.layout.proofs.Settle.{ready-long, ready-after, ready-framed, columns-none, columns-then, band-whole}
 
 abbrev Inv-loop : tie.InvT-loop
-Inv-loop sides gray shear shear-x out₀ y0 y1 x₀ out x = (x ≤ length shear) × Settled sides gray shear shear-x (Columns shear-x 0 x) y0 y1 out₀ out
+Inv-loop sides gray shear shear-x out₀ y0 y1 x₀ out x = (x ≤ length shear) × LevelledArea sides gray shear shear-x (Columns shear-x 0 x) y0 y1 out₀ out
 
 abbrev μ-loop : tie.MeasureT-loop
 μ-loop sides gray shear shear-x out₀ y0 y1 x₀ out x = length shear - x

@@ -1,4 +1,4 @@
--- `layout::level::level_run` meets its contract: off the page the run is white, and on it the run of a page row. Assumes nothing.
+-- `layout::level::level_run` meets its contract: off the page the run is white, and on it the run of a page row.
 use mathlib.Core.Path.{_≡_, ap, _∙_}
 use mathlib.Core.Logic.{inl, inr}
 use Prim.Native.Nat.{ℕ, _+_, _-_, _*_, _≤_}

@@ -1,4 +1,4 @@
--- `layout::level::pad_row` meets its contract: both margins are written white. Assumes nothing.
+-- `layout::level::pad_row` meets its contract: both margins are written white.
 use Rattle.layout.proofs.Settle.{white-margins}
 use borrow.Author.Needs.{needs}
 use Rattle.layout.proofs.level.pad_row.Statement.{statement}

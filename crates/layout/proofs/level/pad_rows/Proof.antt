@@ -1,4 +1,4 @@
--- `layout::level::pad_rows` meets its contract: the margins are white in the rows from y0 up to y. Assumes nothing.
+-- `layout::level::pad_rows` meets its contract: the margins are white in the rows from y0 up to y.
 use mathlib.Core.Path.{_≡_, refl, _∙_, subst}
 use Prim.Native.Nat.{ℕ, _+_, _-_, _≤_}
 use native.Mathlib.Nat.{le-antisymm}

@@ -1,4 +1,4 @@
--- `layout::page::clamped` meets its contract: what is nearest is below 8,192. Assumes nothing.
+-- `layout::page::clamped` meets its contract: what is nearest is below 8,192.
 use mathlib.Core.Path.{_≡_, ap, _∙_}
 use native.Mathlib.Omega.{arith}
 use mir.Syntax.{w64}

@@ -1,4 +1,4 @@
--- `layout::page::difference` meets its contract: both numbers are small. Assumes nothing.
+-- `layout::page::difference` meets its contract: both numbers are small.
 use Rattle.layout.proofs.Signed.{difference-fits, difference-is}
 use borrow.Author.Needs.{needs}
 use Rattle.layout.proofs.page.difference.Statement.{statement}

@@ -1,4 +1,4 @@
--- `layout::page::greater` meets its contract: the test decides. Assumes nothing.
+-- `layout::page::greater` meets its contract: the test decides.
 use Rattle.layout.proofs.page.greater.Statement.{statement}
 use Rattle.layout.proofs.page.greater.Tie as tie
 use Rattle.layout.proofs.Signed.{first-of, second-of}

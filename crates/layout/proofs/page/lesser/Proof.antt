@@ -1,4 +1,4 @@
--- `layout::page::lesser` meets its contract: the test decides. Assumes nothing.
+-- `layout::page::lesser` meets its contract: the test decides.
 use Rattle.layout.proofs.page.lesser.Statement.{statement}
 use Rattle.layout.proofs.page.lesser.Tie as tie
 use Rattle.layout.proofs.Signed.{first-of, second-of}

@@ -1,4 +1,4 @@
--- `layout::page::nearest` meets its contract: below 0, within, or past the last. Assumes nothing.
+-- `layout::page::nearest` meets its contract: below 0, within, or past the last.
 use mathlib.Core.Path.{_≡_, ap, _∙_}
 use mathlib.Core.Bool.{true}
 use Prim.Native.Nat.{_-_}

@@ -1,4 +1,4 @@
--- `layout::page::rect_to_page` meets its contract: four corners, least and greatest, clamped. Assumes nothing.
+-- `layout::page::rect_to_page` meets its contract: four corners, least and greatest, clamped.
 use native.Mathlib.Omega.{arith}
 use Rattle.layout.specs.ToPage.{least, greatest}
 use Rattle.layout.proofs.Signed.{nearest-of-four}

@@ -1,4 +1,4 @@
--- `layout::page::to_page` meets its contract, step by step. Assumes nothing.
+-- `layout::page::to_page` meets its contract, step by step.
 use mathlib.Core.Path.{_≡_, ap, _∙_}
 use Prim.Native.Nat.{_<_}
 use native.Mathlib.Omega.{arith}

@@ -1,5 +1,4 @@
 -- `layout::raster::copy` meets its contract: every place below i holds the byte of `from`; of a single byte, the first is all.
--- Assumes nothing.
 use mathlib.Core.Path.{refl, sym, _∙_}
 use Prim.Native.Nat.{_-_}
 use native.Mathlib.Omega.{arith}

@@ -1,5 +1,4 @@
 -- `layout::raster::whiten` meets its contract: every place below i holds 255.
--- Assumes nothing.
 use mathlib.Core.Path.{_≡_, sym, _∙_}
 use Prim.Native.Nat.{_-_}
 use native.Mathlib.Omega.{arith}

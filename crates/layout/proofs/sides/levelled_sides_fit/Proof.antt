@@ -1,4 +1,4 @@
--- `layout::sides::levelled_sides_fit` meets its contract, side by side. Assumes nothing.
+-- `layout::sides::levelled_sides_fit` meets its contract, side by side.
 use mathlib.Core.Path.{ap₂}
 use mathlib.Core.Bool.{_&&_}
 use borrow.Author.Needs.{needs}

@@ -1,4 +1,4 @@
--- `layout::sides::raster_fits` meets its contract: the product of the sides is far from wrapping. Assumes nothing.
+-- `layout::sides::raster_fits` meets its contract: the product of the sides is far from wrapping.
 use native.Mathlib.Omega.{arith}
 use mathlib.Core.Path.{refl}
 use Rattle.layout.specs.Sides.{rasterFits}

@@ -1,4 +1,4 @@
--- `layout::sides::sides_fit` meets its contract, test by test. Assumes nothing.
+-- `layout::sides::sides_fit` meets its contract, test by test.
 use Rattle.layout.specs.Sides.{sidesFit}
 use borrow.Author.Needs.{needs}
 use Rattle.layout.proofs.sides.sides_fit.Statement.{statement}

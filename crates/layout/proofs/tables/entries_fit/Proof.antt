@@ -1,4 +1,4 @@
--- `layout::tables::entries_fit` meets its contract: every entry below i fits, and one that does not decides. Assumes nothing.
+-- `layout::tables::entries_fit` meets its contract: every entry below i fits, and one that does not decides.
 use mathlib.Core.Path.{_≡_, sym, ap, _∙_}
 use mathlib.Core.Bool.{true}
 use Prim.Native.Nat.{_≤_, _-_}

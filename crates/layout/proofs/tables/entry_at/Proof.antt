@@ -1,4 +1,4 @@
--- `layout::tables::entry_at` meets its contract: an entry that is not below 0 is its own size. Assumes nothing.
+-- `layout::tables::entry_at` meets its contract: an entry that is not below 0 is its own size.
 use mathlib.Core.Path.{ap}
 use lib.IntN.{pos, natAbs}
 use lib.ListN.{getD}

@@ -1,4 +1,4 @@
--- `layout::tables::entry_fits` meets its contract: an entry below 0 fits no limit, and any other is compared with it. Assumes nothing.
+-- `layout::tables::entry_fits` meets its contract: an entry below 0 fits no limit, and any other is compared with it.
 use mathlib.Core.Path.{_≡_}
 use mathlib.Core.Bool.{true}
 use lib.IntN.{ℤ, pos}

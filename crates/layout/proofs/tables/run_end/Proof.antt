@@ -1,9 +1,10 @@
--- `layout::tables::run_end` meets its contract: up to i all columns have the entry of column `from`. Assumes nothing.
+-- `layout::tables::run_end` meets its contract: up to i all columns have the entry of column `from`.
 use mathlib.Core.Path.{_≡_, sym, _∙_}
 use Prim.Native.Nat.{_-_}
 use native.Mathlib.Omega.{arith}
 use lib.ListN.{length}
-use Rattle.layout.specs.Tables.{entry, Run}
+use Rattle.layout.specs.Tables.{entry}
+use Rattle.layout.specs.Steps.{Run}
 use Rattle.layout.proofs.tables.run_end.Statement.{statement}
 use Rattle.layout.proofs.tables.run_end.Tie as tie
 use Rattle.layout.proofs.Entries.{run-one, run-more}

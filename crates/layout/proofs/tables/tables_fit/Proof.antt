@@ -1,4 +1,4 @@
--- `layout::tables::tables_fit` meets its contract, table by table. Assumes nothing.
+-- `layout::tables::tables_fit` meets its contract, table by table.
 use mathlib.Core.Path.{ap₂}
 use mathlib.Core.Bool.{_&&_}
 use borrow.Author.Needs.{needs}

@@ -1,4 +1,4 @@
--- `math::rounding::half_up` meets its contract: x + x is exact, and its whole part, plus one, halved, is the nearest whole number. Assumes nothing.
+-- `math::rounding::half_up` meets its contract: x + x is exact, and its whole part, plus one, halved, is the nearest whole number.
 use mathlib.Core.Path.{ap, _∙_}
 use Prim.Native.Nat.{ℕ, _+_, _/_}
 use native.Mathlib.Omega.{arith}

@@ -1,4 +1,4 @@
--- `math::rounding::round` meets its contract: the sign goes through the rounding, and a zero or a NaN is whole as it is. Assumes nothing.
+-- `math::rounding::round` meets its contract: the sign goes through the rounding, and a zero or a NaN is whole as it is.
 use mathlib.Core.Path.{sym, ap, _∙_}
 use lib.Ieee.{neg}
 use borrow.Author.Needs.{needs}

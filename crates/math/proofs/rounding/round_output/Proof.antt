@@ -1,4 +1,4 @@
--- `math::rounding::round_output` meets its contract: each way out is the case of the definition that its test names. Assumes nothing.
+-- `math::rounding::round_output` meets its contract: each way out is the case of the definition that its test names.
 use mathlib.Core.Path.{sym}
 use borrow.Author.Needs.{needs}
 use Rattle.math.proofs.rounding.round_output.Statement.{statement}

@@ -1,4 +1,4 @@
--- `math::rounding::round_positive` meets its contract: below 2 ^ 52 the nearest whole number is exact as a float, and from there on x is whole. Assumes nothing.
+-- `math::rounding::round_positive` meets its contract: below 2 ^ 52 the nearest whole number is exact as a float, and from there on x is whole.
 use mathlib.Core.Path.{_≡_, sym, ap, _∙_}
 use Prim.Native.Nat.{ℕ}
 use native.Mathlib.Nat.{le-trans}

@@ -1,4 +1,4 @@
--- `math::rounding::rounded_product` meets its contract: it is the cast of the rounded product, step by step. Assumes nothing.
+-- `math::rounding::rounded_product` meets its contract: it is the cast of the rounded product, step by step.
 use mathlib.Core.Path.{ap, _∙_}
 use mir.Syntax.{w64}
 use mir.ValLaws.{toZ-ofZ}

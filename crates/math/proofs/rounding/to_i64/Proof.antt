@@ -1,5 +1,4 @@
 -- `math::rounding::to_i64` meets its contract: past either end the cast is that end, at a NaN it is 0, and between the ends nothing is lost but the fraction.
--- Assumes nothing.
 use mathlib.Core.Path.{sym}
 use borrow.Author.Needs.{needs}
 use lib.Ieee.{ofBits, neg}

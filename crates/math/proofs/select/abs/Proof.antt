@@ -1,4 +1,4 @@
--- `math::select::abs` meets its contract: below zero the sign is turned, a zero is +0, and anything else has no sign to lose. Assumes nothing.
+-- `math::select::abs` meets its contract: below zero the sign is turned, a zero is +0, and anything else has no sign to lose.
 use Rattle.math.proofs.select.abs.Statement.{statement}
 use Rattle.math.proofs.select.abs.Tie as tie
 use Rattle.math.proofs.Tests.{of-true, abs-below, abs-zero, abs-above}

@@ -1,4 +1,4 @@
--- `math::select::clamp` meets its contract: each way out is the case of the definition that its tests name. Assumes nothing.
+-- `math::select::clamp` meets its contract: each way out is the case of the definition that its tests name.
 use Rattle.math.proofs.select.clamp.Statement.{statement}
 use Rattle.math.proofs.select.clamp.Tie as tie
 

@@ -1,4 +1,4 @@
--- `math::select::finite` meets its contract: x - x is 0 where x is finite, and a NaN elsewhere. Assumes nothing.
+-- `math::select::finite` meets its contract: x - x is 0 where x is finite, and a NaN elsewhere.
 use Rattle.math.proofs.select.finite.Statement.{statement}
 use Rattle.math.proofs.select.finite.Tie as tie
 use Rattle.math.proofs.Tests.{finite-test}

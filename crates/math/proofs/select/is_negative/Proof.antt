@@ -1,4 +1,4 @@
--- `math::select::is_negative` meets its contract: the sign is the highest bit of the pattern. Assumes nothing.
+-- `math::select::is_negative` meets its contract: the sign is the highest bit of the pattern.
 use mathlib.Core.Path.{sym, subst}
 use mathlib.Core.Bool.{Bool, not}
 use lib.Dec.{T}

@@ -1,5 +1,4 @@
 -- `math::sum::pairwise_sum` meets its contract, by the two sentences of its definition. The measure is the list's length, and either half of more than 8 values is shorter.
--- Assumes nothing.
 use mathlib.Core.Path.{_≡_, sym, ap, ap₂, _∙_}
 use Prim.Native.Nat.{ℕ, _/_, _<_}
 use lib.ListN.{length}

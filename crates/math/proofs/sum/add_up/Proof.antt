@@ -1,5 +1,4 @@
 -- `math::sum::add_up` meets its contract. The invariant: what is left of the list, added to s, is the whole list added to 0.0.
--- Assumes nothing.
 use mathlib.Core.Path.{_≡_, refl, sym, _∙_}
 use Prim.Native.Nat.{_≤_, _-_}
 use native.Mathlib.Omega.{arith}

@@ -6,8 +6,7 @@ use native.Mathlib.Omega.{arith}
 use lib.ListN.{length}
 use Rattle.lists.specs.Lists.{below, written}
 use Rattle.sets.specs.Closed.{Below}
-use Rattle.sets.specs.Joins.{Joins}
-use Rattle.sets.specs.Parents.{Room}
+use Rattle.sets.specs.Steps.{Joins, Room}
 use Rattle.meeting.specs.declared.segment.Segment.{Segment}
 use Rattle.meeting.specs.Segments.{rulingAt}
 use Rattle.meeting.specs.Steps.{Tried}

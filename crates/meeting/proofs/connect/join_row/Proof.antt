@@ -12,8 +12,7 @@ use Rattle.lists.specs.Lists.{below}
 use Rattle.lists.proofs.Keep.{length-below, below-in, kept-in, at-in}
 use Rattle.lists.proofs.Sizes.{keep-size-le}
 use Rattle.sets.specs.Closed.{Below}
-use Rattle.sets.specs.Joins.{Joins}
-use Rattle.sets.specs.Parents.{Joined}
+use Rattle.sets.specs.Steps.{Joins, Joined}
 use Rattle.meeting.specs.declared.segment.Segment.{Segment}
 use Rattle.meeting.specs.Segments.{rulingAt, touches}
 use Rattle.meeting.specs.Steps.{verticalsOf, Tried}

@@ -8,7 +8,7 @@ use lib.Signed.{nonNeg}
 use mir.Syntax.{w64}
 use mir.Val.{Fits, SFits}
 use mir.ValLaws.{toZ-ofZ}
-use Rattle.math.specs.Rounding.{UpTo}
+use Rattle.math.specs.Steps.{UpTo}
 use borrow.Author.Needs.{needs}
 use Rattle.params.proofs.pixels.limit.Statement.{statement}
 use Rattle.params.proofs.pixels.limit.Tie as tie

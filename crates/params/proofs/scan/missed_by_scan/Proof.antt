@@ -1,4 +1,4 @@
--- `params::scan::missed_by_scan` meets its contract: its one test is the question. Assumes nothing.
+-- `params::scan::missed_by_scan` meets its contract: its one test is the question.
 use mathlib.Core.Path.{sym}
 use borrow.Author.Needs.{needs}
 use Rattle.params.proofs.scan.missed_by_scan.Statement.{statement}

@@ -1,4 +1,4 @@
--- `params::scan::xheight_in_range` meets its contract: its tests are the definition's. Assumes nothing.
+-- `params::scan::xheight_in_range` meets its contract: its tests are the definition's.
 use borrow.Author.Needs.{needs}
 use Rattle.params.proofs.scan.xheight_in_range.Statement.{statement}
 use Rattle.params.proofs.scan.xheight_in_range.Tie as tie

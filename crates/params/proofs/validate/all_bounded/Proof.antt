@@ -1,5 +1,4 @@
 -- `params::validate::all_bounded` meets its contract. The invariant: what was found so far and what is left of the list decide the whole list.
--- Assumes nothing.
 use mathlib.Core.Path.{_≡_, refl, sym, ap, _∙_}
 use mathlib.Core.Bool.{Bool, _&&_}
 use Prim.Native.Nat.{_≤_, _-_, _+_}

@@ -1,4 +1,4 @@
--- `params::validate::bounded` meets its contract: its tests are the definition's. Assumes nothing.
+-- `params::validate::bounded` meets its contract: its tests are the definition's.
 use borrow.Author.Needs.{needs}
 use Rattle.params.proofs.validate.bounded.Statement.{statement}
 use Rattle.params.proofs.validate.bounded.Tie as tie

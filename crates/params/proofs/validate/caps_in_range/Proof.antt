@@ -1,4 +1,4 @@
--- `params::validate::caps_in_range` meets its contract: its tests are the definition's. Assumes nothing.
+-- `params::validate::caps_in_range` meets its contract: its tests are the definition's.
 use mathlib.Core.Path.{sym, ap₂, _∙_}
 use mathlib.Core.Bool.{_&&_, and-true}
 use borrow.Author.Needs.{needs}

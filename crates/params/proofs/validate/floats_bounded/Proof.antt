@@ -1,4 +1,4 @@
--- `params::validate::floats_bounded` meets its contract: it hands over the 25 settings of the definition. Assumes nothing.
+-- `params::validate::floats_bounded` meets its contract: it hands over the 25 settings of the definition.
 use borrow.Author.Needs.{needs}
 use Rattle.params.specs.Settings.{floatsBounded}
 use Rattle.params.proofs.validate.floats_bounded.Statement.{statement}

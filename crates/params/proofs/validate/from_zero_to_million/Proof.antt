@@ -1,4 +1,4 @@
--- `params::validate::from_zero_to_million` meets its contract: its tests are the definition's. Assumes nothing.
+-- `params::validate::from_zero_to_million` meets its contract: its tests are the definition's.
 use borrow.Author.Needs.{needs}
 use Rattle.params.proofs.validate.from_zero_to_million.Statement.{statement}
 use Rattle.params.proofs.validate.from_zero_to_million.Tie as tie

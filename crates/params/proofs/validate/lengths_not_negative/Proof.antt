@@ -1,4 +1,4 @@
--- `params::validate::lengths_not_negative` meets its contract: its tests are the definition's. Assumes nothing.
+-- `params::validate::lengths_not_negative` meets its contract: its tests are the definition's.
 use mathlib.Core.Bool.{and-assoc, and-true}
 use Rattle.params.specs.Settings.{lengthsNotNegative}
 use Rattle.params.proofs.validate.lengths_not_negative.Statement.{statement}

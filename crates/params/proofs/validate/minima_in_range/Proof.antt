@@ -1,4 +1,4 @@
--- `params::validate::minima_in_range` meets its contract: its tests are the definition's. Assumes nothing.
+-- `params::validate::minima_in_range` meets its contract: its tests are the definition's.
 use mathlib.Core.Path.{refl}
 use Rattle.params.specs.Settings.{minimaInRange}
 use Rattle.params.proofs.validate.minima_in_range.Statement.{statement}

@@ -1,4 +1,4 @@
--- `params::validate::missed_by_free_rules` meets its contract: its one test is the question. Assumes nothing.
+-- `params::validate::missed_by_free_rules` meets its contract: its one test is the question.
 use borrow.Author.Tests.{le-leb, lt-leb}
 use Rattle.params.specs.Settings.{freeRulesCounted}
 use Rattle.params.proofs.validate.missed_by_free_rules.Statement.{statement}

@@ -1,4 +1,4 @@
--- `params::validate::missed_by_fusion` meets its contract: its one test is the question. Assumes nothing.
+-- `params::validate::missed_by_fusion` meets its contract: its one test is the question.
 use mathlib.Core.Path.{sym}
 use borrow.Author.Needs.{needs}
 use Rattle.params.proofs.validate.missed_by_fusion.Statement.{statement}

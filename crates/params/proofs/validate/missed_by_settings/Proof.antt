@@ -1,4 +1,4 @@
--- `params::validate::missed_by_settings` meets its contract: 13 is asked where none of 7 to 11 is missed. Assumes nothing.
+-- `params::validate::missed_by_settings` meets its contract: 13 is asked where none of 7 to 11 is missed.
 use mathlib.Core.Path.{sym}
 use borrow.Author.Needs.{needs}
 use borrow.Author.Tests.{eq-eqb, ne-eqb}

@@ -1,4 +1,4 @@
--- `params::validate::shares_in_range` meets its contract: its tests are the definition's. Assumes nothing.
+-- `params::validate::shares_in_range` meets its contract: its tests are the definition's.
 use mathlib.Core.Bool.{and-assoc}
 use Rattle.params.specs.Settings.{sharesInRange}
 use Rattle.params.proofs.validate.shares_in_range.Statement.{statement}

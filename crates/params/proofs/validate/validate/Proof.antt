@@ -1,5 +1,4 @@
 -- `params::validate::validate` meets its contract: at each way out the questions before it were answered yes, and its own was answered no.
--- Assumes nothing.
 use mathlib.Core.Path.{_≡_, refl, sym, _∙_}
 use mathlib.Core.Bool.{true, false}
 use borrow.Author.Needs.{needs}

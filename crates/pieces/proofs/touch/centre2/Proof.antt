@@ -1,4 +1,4 @@
--- `touch::centre2` meets its contract, by the direction. Assumes nothing.
+-- `touch::centre2` meets its contract, by the direction.
 use borrow.Author.Needs.{needs}
 use native.Mathlib.Omega.{arith}
 use Rattle.pieces.proofs.touch.centre2.Statement.{statement}

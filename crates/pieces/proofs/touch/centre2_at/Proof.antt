@@ -1,4 +1,4 @@
--- `touch::centre2_at` meets its contract, by the direction. Assumes nothing.
+-- `touch::centre2_at` meets its contract, by the direction.
 use mathlib.Core.Path.{ap₂, _∙_}
 use Prim.Native.Nat.{_+_}
 use borrow.Author.Needs.{needs}

@@ -1,4 +1,4 @@
--- `touch::end_at` meets its contract, by the direction. Assumes nothing.
+-- `touch::end_at` meets its contract, by the direction.
 use mathlib.Core.Path.{_∙_}
 use borrow.Author.Needs.{needs}
 use Rattle.pieces.proofs.touch.end_at.Statement.{statement}

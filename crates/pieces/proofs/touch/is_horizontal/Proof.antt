@@ -1,4 +1,4 @@
--- `touch::is_horizontal` meets its contract: one more on both sides changes nothing. Assumes nothing.
+-- `touch::is_horizontal` meets its contract: one more on both sides changes nothing.
 use mathlib.Core.Path.{_≡_, refl, sym}
 use mathlib.Core.Bool.{Bool, true, false}
 use Prim.Native.Nat.{ℕ, _+_, _-_}

@@ -1,4 +1,4 @@
--- `touch::join_all` meets its contract: each turn sees one row more, and all rows are the whole rule. Assumes nothing.
+-- `touch::join_all` meets its contract: each turn sees one row more, and all rows are the whole rule.
 use mathlib.Core.Path.{_≡_, refl, _∙_}
 use mathlib.Core.List.{List}
 use Prim.Native.Nat.{ℕ, _+_, _-_, _≤_, _<_, zero-le}
@@ -7,8 +7,7 @@ use borrow.Author.Needs.{needs}
 use lib.ListN.{length}
 use Rattle.lists.specs.Lists.{below, written}
 use Rattle.sets.specs.Closed.{Below}
-use Rattle.sets.specs.Joins.{Joins, Seen}
-use Rattle.sets.specs.Parents.{Room}
+use Rattle.sets.specs.Steps.{Joins, Seen, Room}
 use Rattle.sets.proofs.Pairs.{pairs-begin, row-next, all-seen}
 use Rattle.pieces.specs.Pieces.{Touch}
 use Rattle.pieces.proofs.touch.join_all.Statement.{statement}

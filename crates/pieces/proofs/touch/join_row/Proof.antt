@@ -1,4 +1,4 @@
--- `touch::join_row` meets its contract: each turn sees one pair more. Assumes nothing.
+-- `touch::join_row` meets its contract: each turn sees one pair more.
 use mathlib.Core.Path.{_≡_, refl, sym, ap, _∙_}
 use mathlib.Core.Bool.{Bool}
 use mathlib.Core.Logic.{⊎-elim, inl}
@@ -11,8 +11,7 @@ use Rattle.rects.specs.declared.Rect.{Rect}
 use Rattle.rects.specs.Rects.{count, rectAt}
 use Rattle.rects.proofs.Questions.{has-numbers}
 use Rattle.sets.specs.Closed.{Below}
-use Rattle.sets.specs.Joins.{Joins, Seen}
-use Rattle.sets.specs.Parents.{Joined}
+use Rattle.sets.specs.Steps.{Joins, Seen, Joined}
 use Rattle.sets.proofs.Pairs.{pair-next}
 use Rattle.pieces.specs.Pieces.{touching, touch, Touch}
 use Rattle.pieces.specs.Steps.{Ordered}

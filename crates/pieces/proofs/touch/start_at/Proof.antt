@@ -1,4 +1,4 @@
--- `touch::start_at` meets its contract, by the direction. Assumes nothing.
+-- `touch::start_at` meets its contract, by the direction.
 use mathlib.Core.Path.{_∙_}
 use borrow.Author.Needs.{needs}
 use Rattle.pieces.proofs.touch.start_at.Statement.{statement}

@@ -1,4 +1,4 @@
--- `touch::touches` meets its contract: what the tests say, with the centres, starts and ends in the direction of the given piece. Assumes nothing.
+-- `touch::touches` meets its contract: what the tests say, with the centres, starts and ends in the direction of the given piece.
 use mathlib.Core.Path.{sym, ap, _∙_}
 use Rattle.rects.specs.Rects.{rectAt}
 use Rattle.pieces.specs.Pieces as Pieces

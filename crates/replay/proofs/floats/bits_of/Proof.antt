@@ -1,4 +1,4 @@
--- `replay::floats::bits_of` is safe: past the test x is no NaN. Assumes nothing.
+-- `replay::floats::bits_of` is safe: past the test x is no NaN.
 use mathlib.Core.Path.{sym, _∙_, subst}
 use mathlib.Core.Bool.{Bool, not}
 use lib.Dec.{T}

@@ -1,4 +1,4 @@
--- `replay::floats::bits_of_whole` is safe: for z below 0, -1 - z is the whole number n with z = -1 - n, which fits. Assumes nothing.
+-- `replay::floats::bits_of_whole` is safe: for z below 0, -1 - z is the whole number n with z = -1 - n, which fits.
 use mathlib.Core.Path.{_≡_, refl, sym, ap, _∙_, subst}
 use mathlib.Core.Bool.{Bool, true, false, not, cond, true≢false}
 use Prim.Native.Nat.{ℕ, suc, _-_, _^_, _≤_, _<_, zero-le}

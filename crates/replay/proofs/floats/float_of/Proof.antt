@@ -1,4 +1,4 @@
--- `replay::floats::float_of` is safe: a pattern is a NaN's exactly where it is above an infinity's, its sign aside. Assumes nothing.
+-- `replay::floats::float_of` is safe: a pattern is a NaN's exactly where it is above an infinity's, its sign aside.
 use mathlib.Core.Path.{sym, _∙_, subst}
 use mathlib.Core.Bool.{Bool, not}
 use lib.Dec.{T}

@@ -1,4 +1,4 @@
--- `replay::floats::pairwise_sum` is safe: the list has read no more entries than it has room for. Assumes nothing.
+-- `replay::floats::pairwise_sum` is safe: the list has read no more entries than it has room for.
 use mathlib.Core.Path.{sym}
 use lib.Seq.{length-take-le}
 use borrow.Author.Needs.{needs}

@@ -1,4 +1,4 @@
--- `replay::levelling::level_gray` is safe: the part that it lends is no longer than the list. Assumes nothing.
+-- `replay::levelling::level_gray` is safe: the part that it lends is no longer than the list.
 use mathlib.Core.Path.{sym}
 use lib.Seq.{length-take-le}
 use borrow.Author.Needs.{needs}

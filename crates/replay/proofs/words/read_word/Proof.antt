@@ -1,4 +1,4 @@
--- `replay::words::read_word` is safe, and ends: each turn passes a byte. The value is cut before a digit is added, so it fits. Assumes nothing.
+-- `replay::words::read_word` is safe, and ends: each turn passes a byte. The value is cut before a digit is added, so it fits.
 use Prim.Native.Nat.{_-_}
 use native.Mathlib.Omega.{arith}
 use lib.ListN.{length}

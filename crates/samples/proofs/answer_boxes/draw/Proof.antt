@@ -1,4 +1,4 @@
--- `samples::answer_boxes::draw` is safe, and keeps the list's length. Assumes nothing.
+-- `samples::answer_boxes::draw` is safe, and keeps the list's length.
 use mathlib.Core.Path.{_≡_, refl, _∙_}
 use Prim.Native.Nat.{_-_}
 use native.Mathlib.Omega.{arith}

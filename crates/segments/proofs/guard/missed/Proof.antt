@@ -1,4 +1,4 @@
--- `guard::missed` meets its contract: question 14 is asked where none before it is missed. Assumes nothing.
+-- `guard::missed` meets its contract: question 14 is asked where none before it is missed.
 use mathlib.Core.Path.{_≡_, refl, sym, ap, ap₂, _∙_}
 use mathlib.Core.Bool.{Bool, true, false, cond, _&&_}
 use mathlib.Core.List.{List, [], _∷_, _++_}

@@ -1,4 +1,4 @@
--- `guard::missed_by_input` meets its contract: at each way out the questions before it were answered yes, and its own was answered no. Assumes nothing.
+-- `guard::missed_by_input` meets its contract: at each way out the questions before it were answered yes, and its own was answered no.
 use mathlib.Core.Path.{_≡_, refl, sym, _∙_}
 use mathlib.Core.Bool.{Bool, true, false, cond}
 use mathlib.Core.List.{List, [], _∷_}

@@ -1,4 +1,4 @@
--- `keys::set_keys` meets its contract: one key more a turn. Assumes nothing.
+-- `keys::set_keys` meets its contract: one key more a turn.
 use mathlib.Core.Path.{_≡_, refl, sym, ap, _∙_}
 use mathlib.Core.List.{List, map}
 use Prim.Native.Nat.{ℕ, _+_, _-_, _≤_, _<_, zero-le}
@@ -7,8 +7,9 @@ use borrow.Author.Needs.{needs, scaled-fits}
 use lib.ListN.{length, set, length-set}
 use Rattle.lists.specs.Lists.{In, below, written}
 use Rattle.rects.specs.declared.Rect.{Rect}
-use Rattle.rects.specs.Rects.{count, AllInside}
-use Rattle.rects.specs.Around.{around, Places}
+use Rattle.rects.specs.Rects.{count}
+use Rattle.rects.specs.Steps.{AllInside, Places}
+use Rattle.rects.specs.Around.{around}
 use Rattle.rects.proofs.Questions.{Inside}
 use Rattle.sets.specs.Listing.{membersOf}
 use Rattle.segments.specs.Rulings.{keyOf, keysOf}

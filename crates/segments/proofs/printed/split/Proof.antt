@@ -9,7 +9,8 @@ use lib.Ieee.{Float, nan}
 use lib.ListN.{length, getD, set}
 use Rattle.lists.proofs.Gathered.{Gathered, gathered-none, gathered-low, gathered-one, gathered-past}
 use Rattle.params.specs.declared.settings.RulingsParams.{RulingsParams}
-use Rattle.segments.specs.Printed.{printed, SplitByContrast}
+use Rattle.segments.specs.Printed.{printed}
+use Rattle.segments.specs.Steps.{SplitByContrast}
 use Rattle.segments.proofs.printed.split.Statement.{statement}
 use Rattle.segments.proofs.printed.split.Tie as tie
 

@@ -1,4 +1,4 @@
--- `ruling::ruling_of` meets its contract, field by field. Assumes nothing.
+-- `ruling::ruling_of` meets its contract, field by field.
 use mathlib.Core.Path.{_≡_, refl, sym, ap, ap₂, _∙_}
 use mathlib.Core.Bool.{Bool}
 use mathlib.Core.List.{List}
@@ -13,7 +13,8 @@ use Rattle.rects.specs.declared.Rect.{Rect}
 use Rattle.rects.specs.Rects.{count, rectAt}
 use Rattle.rects.specs.Around.{around}
 use Rattle.rects.proofs.Questions.{has-numbers}
-use Rattle.contrast.specs.Contrast.{OnPicture, contrastOf, Contrasted}
+use Rattle.contrast.specs.Contrast.{contrastOf}
+use Rattle.contrast.specs.Steps.{OnPicture, Contrasted}
 use Rattle.segments.specs.declared.ruling.Ruling.{Ruling}
 use Rattle.pieces.specs.Pieces.{horizontal}
 use Rattle.segments.specs.Rulings.{directionOf, rulingOf}

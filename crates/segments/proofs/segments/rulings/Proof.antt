@@ -1,4 +1,4 @@
--- `segments::rulings` meets its contract: the sets are listed, ordered, strung together in that order, and described. Assumes nothing.
+-- `segments::rulings` meets its contract: the sets are listed, ordered, strung together in that order, and described.
 use mathlib.Core.Path.{_≡_, refl, sym, ap, _∙_}
 use Prim.Native.Nat.{ℕ, _≤_, _<_}
 use native.Mathlib.Omega.{arith}

@@ -1,4 +1,4 @@
--- `sets_of_pieces::list_sets` meets its contract: all pairs are joined, and the sets of equal root are the closed sets. Assumes nothing.
+-- `sets_of_pieces::list_sets` meets its contract: all pairs are joined, and the sets of equal root are the closed sets.
 use mathlib.Core.Path.{_≡_, sym, ap, subst, _∙_}
 use mathlib.Core.List.{List}
 use Prim.Native.Nat.{ℕ, _≤_}
@@ -8,9 +8,8 @@ use lib.ListN.{length}
 use Rattle.lists.specs.Lists.{concat, written}
 use Rattle.rects.specs.Rects.{count}
 use Rattle.sets.specs.Closed.{Below}
-use Rattle.sets.specs.Joins.{Joins}
-use Rattle.sets.specs.Listing.{Listing, endsFrom}
-use Rattle.sets.specs.Parents.{root}
+use Rattle.sets.specs.Steps.{Joins, Listing, root}
+use Rattle.sets.specs.Listing.{endsFrom}
 use Rattle.sets.proofs.Listings.{joins-closedSets}
 use Rattle.sets.proofs.Sizes.{classes-all, classes-count, classes-total}
 use Rattle.pieces.specs.Pieces.{touch, Touch}

@@ -1,4 +1,4 @@
--- `sets_of_pieces::order_sets` meets its contract: the keys that were written are those that are sorted. Assumes nothing.
+-- `sets_of_pieces::order_sets` meets its contract: the keys that were written are those that are sorted.
 use mathlib.Core.Path.{_≡_, sym, ap, _∙_}
 use mathlib.Core.List.{List, map}
 use Prim.Native.Nat.{ℕ, _≤_}

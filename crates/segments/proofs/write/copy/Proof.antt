@@ -1,4 +1,4 @@
--- `write::copy` meets its contract: what is copied so far stands at its place. Assumes nothing.
+-- `write::copy` meets its contract: what is copied so far stands at its place.
 use mathlib.Core.Path.{_≡_, refl, sym, ap, _∙_}
 use mathlib.Core.List.{List}
 use Prim.Native.Nat.{ℕ, _+_, _-_, _≤_, _<_, zero-le}

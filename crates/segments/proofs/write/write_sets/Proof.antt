@@ -1,4 +1,4 @@
--- `write::write_sets` meets its contract: one set more a turn. Assumes nothing.
+-- `write::write_sets` meets its contract: one set more a turn.
 use mathlib.Core.Path.{_≡_, refl, sym, ap, _∙_}
 use mathlib.Core.List.{List, map}
 use Prim.Native.Nat.{ℕ, _+_, _-_, _^_, _≤_, _<_, zero-le}

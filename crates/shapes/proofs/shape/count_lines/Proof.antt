@@ -6,11 +6,12 @@ use Prim.Native.Nat.{ℕ, _/_, _≤_}
 use native.Mathlib.Omega.{arith}
 use lib.ListN.{length, take, length-map}
 use lib.Seq.{length-take-le}
-use Rattle.lines.specs.Lines.{inOrder, lineCount, Room, Numbered}
+use Rattle.lines.specs.Lines.{inOrder, lineCount}
+use Rattle.lines.specs.Steps.{Room, Numbered}
 use Rattle.lines.proofs.Sorted.{lines-few}
 use Rattle.meeting.specs.declared.segment.Segment.{Segment}
 use Rattle.shapes.specs.Shapes.{linesOf, members, positions}
-use Rattle.shapes.specs.Steps.{Collected, Counted}
+use Rattle.shapes.specs.Steps.{Collected, LinesCounted}
 use borrow.Author.Needs.{needs}
 use Rattle.shapes.proofs.shape.count_lines.Statement.{statement}
 use Rattle.shapes.proofs.shape.count_lines.Tie as tie
@@ -21,7 +22,7 @@ module _ {h : Bool} {s : ℕ → Segment} {set keys : List ℕ} {n : ℕ} (C : C
       let e : length (take n keys) ≡ n = length-take-le n keys l in
       record { small = omega (arith, C .short); order = omega (arith, C .short); numbers = omega (arith, C .short) }
 
-  counted : {cluster l : ℕ} {o o′ w′ : List ℕ} → Numbered (take n keys) cluster o o′ w′ l → Counted cluster h s set n l
+  counted : {cluster l : ℕ} {o o′ w′ : List ℕ} → Numbered (take n keys) cluster o o′ w′ l → LinesCounted cluster h s set n l
   unfolding linesOf
   counted {cluster} {l} N =
       let size : length (positions h s set) ≡ n = length-map (members h s set) (λ i. s i .centre2 / 2) ∙ sym (C .count) in

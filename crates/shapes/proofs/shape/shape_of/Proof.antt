@@ -9,7 +9,7 @@ use Rattle.meeting.specs.declared.segment.Segment.{Segment}
 use Rattle.shapes.specs.declared.limits.Limits.{Limits}
 use Rattle.meeting.specs.Segments.{rulingAt}
 use Rattle.shapes.specs.Shapes.{isTable}
-use Rattle.shapes.specs.Steps.{Counted, Shaped}
+use Rattle.shapes.specs.Steps.{LinesCounted, Shaped}
 use borrow.Author.Needs.{needs}
 use Rattle.shapes.proofs.shape.shape_of.Statement.{statement}
 use Rattle.shapes.proofs.shape.shape_of.Tie as tie
@@ -19,7 +19,7 @@ grouped true true c d = refl
 grouped true false c d = refl
 grouped false b c d = refl
 
-shaped : (lim : Limits) (s : ℕ → Segment) (set : List ℕ) {h k v l : ℕ} {t : Bool} → Counted (lim .cluster) true s set h k → Counted (lim .cluster) false s set v l
+shaped : (lim : Limits) (s : ℕ → Segment) (set : List ℕ) {h k v l : ℕ} {t : Bool} → LinesCounted (lim .cluster) true s set h k → LinesCounted (lim .cluster) false s set v l
     → t ≡ leb (lim .«min_horizontal») h && leb (lim .«min_vertical») v && leb 2 k && leb 2 l → Shaped lim s set t k l
 unfolding isTable
 shaped lim s set {h} {k} {v} {l} H W e =

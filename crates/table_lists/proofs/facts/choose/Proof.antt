@@ -15,7 +15,7 @@ use Rattle.meeting.specs.declared.segment.Segment.{Segment}
 use Rattle.shapes.specs.declared.limits.Limits.{Limits}
 use Rattle.meeting.specs.Segments.{rulingAt}
 use Rattle.shapes.specs.Shapes.{isTable, hasMinima, hasTwoLines, linesOf}
-use Rattle.meeting.specs.Steps.{Inside}
+use Rattle.meeting.specs.Steps.{IndexesBelow}
 use Rattle.table_lists.specs.Steps.{SetsIn, Rooms, Chose}
 use Rattle.shapes.specs.Steps.{Shaped}
 use Rattle.table_lists.proofs.Passes.{set-read, tables-few, free-fits, chose-none, chose-table, chose-free}
@@ -74,7 +74,7 @@ module _ (lim : Limits) (s : ℕ → Segment) (f : ℕ → List ℕ) (count : �
       short : length xs ≤ n
       short = set-read S l ex .0 .short
 
-      roomy : Inside n xs × (length xs ≤ length ke′) × (length xs ≤ length od′) × (length xs ≤ length wo′)
+      roomy : IndexesBelow n xs × (length xs ≤ length ke′) × (length xs ≤ length od′) × (length xs ≤ length wo′)
       roomy = (set-read S l ex .0, omega (arith, short, R .keys, P .keys), omega (arith, short, R .order, P .order), omega (arith, short, R .work, P .work))
 
       fits : a + length xs ≤ length fr′

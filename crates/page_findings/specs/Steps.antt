@@ -9,7 +9,7 @@ use Rattle.sets.specs.Listing.{membersOf}
 use Rattle.layout.specs.declared.sides.Sides.{Sides}
 use Rattle.params.specs.declared.settings.RulingsParams.{RulingsParams}
 use Rattle.finding_lists.specs.Columns.{Columns}
-use Rattle.findings.specs.Made.{Scan, Rulings, Tables, Boxes}
+use Rattle.findings.specs.Made.{Scan, RulingLists, TableLists, BoxLists}
 use Rattle.findings.specs.Steps.{Mapping, AllGiven, TablesGiven, NumbersGiven, GridsGiven, FindRoom, PageFound}
 use Rattle.page.specs.declared.counts.Counts.{Counts}
 
@@ -63,7 +63,7 @@ module _ (n : Counts) (s : Sources) where
     pub numbers : n .grids ≤ length (s .numbers)
 
   -- The front parts, by what they are about.
-  abbrev pub ruled : Rulings
+  abbrev pub ruled : RulingLists
   ruled = record { rects = take (4 * n .rulings) (s .rects); directions = take (n .rulings) (s .directions); contrasts = take (n .rulings) (s .contrasts) }
 
   abbrev pub printed : List ℕ
@@ -72,7 +72,7 @@ module _ (n : Counts) (s : Sources) where
   abbrev pub faint : List ℕ
   faint = take (n .faint) (s .faint)
 
-  abbrev pub tabled : Tables
+  abbrev pub tabled : TableLists
   tabled =
       record {
         bounds = take (4 * n .tables) (s .bounds);
@@ -85,7 +85,7 @@ module _ (n : Counts) (s : Sources) where
   abbrev pub free : List ℕ
   free = take (n .free) (s .free)
 
-  abbrev pub boxed : Boxes
+  abbrev pub boxed : BoxLists
   boxed =
       record {
         rects = take (4 * n .boxes) (s .boxes);

@@ -1,17 +1,32 @@
--- What the inner functions promise each other: how often each number stands among the samples, and where the samples lie.
+-- What the functions of `contrast` ask and leave; none of it is needed to read the contracts.
 use mathlib.Core.Path.{_≡_}
-use Prim.Native.Nat.{ℕ, _+_, _*_, _^_, _<_, _≤_}
+use Prim.Native.Nat.{ℕ, _*_, _≤_, _+_, _^_, _<_}
 use mathlib.Core.Bool.{Bool, cond}
-use mathlib.Core.List.{List, _++_, map}
-use lib.Dec.{eqb, leb}
+use mathlib.Core.List.{List, map, _++_}
 use lib.ListN.{length, getD}
+use lib.Ieee.{Float}
+use Rattle.rects.specs.Steps.{Inside}
+use Rattle.rects.specs.declared.Rect.{Rect}
+use Rattle.contrast.specs.Pixels.{darkest, samples, run, darkestOf, beside, pixelsIn}
+use Rattle.contrast.specs.Contrast.{contrastOf, NearContrast}
+use lib.Dec.{eqb, leb}
 use Rattle.lists.specs.Lists.{below, keep}
 use Rattle.rects.specs.Rects.{widthOf, heightOf}
-use Rattle.rects.specs.declared.Rect.{Rect}
 use Rattle.contrast.specs.declared.areas.Strips.{Strips}
 use Rattle.contrast.specs.declared.areas.Area.{Area}
 use Rattle.contrast.specs.declared.areas.Areas.{Areas}
-use Rattle.contrast.specs.Pixels.{run, darkestOf, beside, pixelsIn, samples}
+
+-- A ruling's rectangle on a picture of w columns and h rows.
+pub record OnPicture (raster : List ℕ) (w h : ℕ) (r : Rect) : Type 0 where
+  pub full : length raster ≡ w * h
+  pub narrow : w ≤ 8192
+  pub low : h ≤ 8192
+  pub inside : Inside w h r
+
+-- What is promised of a ruling's contrast x.
+pub record Contrasted (raster : List ℕ) (w h : ℕ) (r : Rect) (horizontal : Bool) (x : Float) : Type 0 where
+  pub value : x ≡ contrastOf raster w h r horizontal
+  pub near : NearContrast raster w h r horizontal x
 
 -- How many entries pass a test.
 abbrev pub many : (ℕ → Bool) → List ℕ → ℕ
