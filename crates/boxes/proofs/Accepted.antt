@@ -23,7 +23,7 @@ use Rattle.params.specs.Settings.{settingsQuestions}
 use Rattle.params.specs.Steps.{SettingsPassed}
 use Rattle.params.proofs.Passed.{settings-passed}
 use Rattle.ink.specs.Steps.{Readable}
-use Rattle.boxes.specs.Limits.{limitsOf}
+use Rattle.boxes.specs.Limits.{boxLimitsOf}
 use Rattle.boxes.specs.Call.{Given, Lent, hasRoom, givenQuestions, questions}
 use Rattle.boxes.specs.Steps.{Ready}
 
@@ -37,8 +37,8 @@ readable mask w h r a b full I =
 pub ready : (w h dpi : ℕ) (xheight : Float) (mask glyphs : List ℕ) (p : RulingsParams) {rs ms : List ℕ} {cs : List Float}
     → w ≤ 8192 → h ≤ 8192 → length mask ≡ w * h → AllInside w h glyphs → SettingsPassed p xheight
     → 4 * count glyphs ≤ length rs → count glyphs ≤ length ms → count glyphs ≤ length cs
-    → Ready mask w glyphs (limitsOf dpi xheight p) rs ms cs
-unfolding limitsOf
+    → Ready mask w glyphs (boxLimitsOf dpi xheight p) rs ms cs
+unfolding boxLimitsOf
 ready w h dpi xheight mask glyphs p a b full inside S rects marks coverages =
     record {
       readable = λ k l. readable mask w h (rectAt glyphs k) a b full (inside k l);
@@ -50,7 +50,7 @@ ready w h dpi xheight mask glyphs p a b full inside S rects marks coverages =
 
 -- a page that `boxes` accepts
 pub accepted-ready : (g : Given) (l : Lent) → firstMissed (questions g l) ≡ 0
-    → Ready (g .ink) (g .w) (g .glyphs) (limitsOf (g .dpi) (g .xheight) (g .settings)) (l .rects) (l .marks) (l .coverages)
+    → Ready (g .ink) (g .w) (g .glyphs) (boxLimitsOf (g .dpi) (g .xheight) (g .settings)) (l .rects) (l .marks) (l .coverages)
 accepted-ready g l none =
     let parts = yes-parts (givenQuestions g) ((14, hasRoom g l) ∷ []) (all-yes (questions g l) tt none) in
     let yes = parts .0 in

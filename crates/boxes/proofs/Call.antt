@@ -6,14 +6,14 @@ use borrow.Author.Tests.{ne-eqb}
 use Rattle.questions.specs.Questions.{firstMissed}
 use Rattle.ink.specs.Ink.{inkAt}
 use Rattle.boxes.specs.declared.limits.Limits.{Limits}
-use Rattle.boxes.specs.Limits.{limitsOf}
+use Rattle.boxes.specs.Limits.{boxLimitsOf}
 use Rattle.boxes.specs.Call as Call
 use Rattle.boxes.specs.Call.{Given, Lent, questions, refusal, Boxes}
 use Rattle.boxes.specs.Steps.{Made}
 use Rattle.boxes.proofs.EveryBox.{every-box}
 
 module _ (g : Given) (l : Lent) {q : ℕ} (asked : q ≡ firstMissed (questions g l)) where
-  pub accepted : q ≡ 0 → {lim : Limits} (l′ : Lent) {n : ℕ} → lim ≡ limitsOf (g .dpi) (g .xheight) (g .settings)
+  pub accepted : q ≡ 0 → {lim : Limits} (l′ : Lent) {n : ℕ} → lim ≡ boxLimitsOf (g .dpi) (g .xheight) (g .settings)
       → Made (g .ink) (g .w) (g .glyphs) lim (l .rects) (l .marks) (l .coverages) (l′ .rects) (l′ .marks) (l′ .coverages) n
       → Boxes g l l′ (record { number = 0; count = n })
   accepted z l′ {n} e L =
@@ -23,7 +23,7 @@ module _ (g : Given) (l : Lent) {q : ℕ} (asked : q ≡ firstMissed (questions 
         counts = λ i. record { number = 0; count = M .count i };
         refused = λ r. absurd (r refl);
         answers = λ _. record { rects = M .rects; marks = M .marks; coverages = M .coverages };
-        demand3 = λ _. every-box (inkAt (g .w) (g .ink)) (limitsOf (g .dpi) (g .xheight) (g .settings)) (g .glyphs);
+        demand3 = λ _. every-box (inkAt (g .w) (g .ink)) (boxLimitsOf (g .dpi) (g .xheight) (g .settings)) (g .glyphs);
       }
 
   pub refused : (q ≡ 0 → ⊥) → Boxes g l l (refusal q)

@@ -23,7 +23,7 @@ use Rattle.boxes.specs.declared.limits.Limits.{Limits}
 use Rattle.boxes.specs.declared.found.CheckBox.{CheckBox}
 use Rattle.boxes.specs.declared.found.Found.the-variants.{PassedOver, Box}
 use Rattle.boxes.specs.Tests.{sizeMissed, hasFrame}
-use Rattle.boxes.specs.Boxes.{frameMissed, boxIn, trimmed, passedOver, boxOf, chosen, boxesBelow, boxesOf, Ascends, EveryBox, rectanglesOf}
+use Rattle.boxes.specs.Boxes.{frameMissed, boxIn, trimmed, passedOver, boxOf, chosen, boxesBelow, boxesOf, Ascends, EveryBox, framesOf}
 use Rattle.boxes.specs.Steps.{foundOf, listed}
 use Rattle.boxes.proofs.Frames.{frame-inside}
 
@@ -93,20 +93,20 @@ module _ (ink : Ink) (l : Limits) (glyphs : List ℕ) where
 
 -- ---- where the boxes lie
 
-pub rectangles-long : (bs : List CheckBox) → length (rectanglesOf bs) ≡ 4 * length bs
+pub rectangles-long : (bs : List CheckBox) → length (framesOf bs) ≡ 4 * length bs
 rectangles-long [] = refl
 rectangles-long (b ∷ bs) = omega (arith, rectangles-long bs)
 
 -- rectangle k is that of box k
-pub rectangle-at : (bs : List CheckBox) (k : ℕ) (past : CheckBox) → k < length bs → rectAt (rectanglesOf bs) k ≡ getD bs k past .bbox
+pub rectangle-at : (bs : List CheckBox) (k : ℕ) (past : CheckBox) → k < length bs → rectAt (framesOf bs) k ≡ getD bs k past .bbox
 rectangle-at [] k past h = absurd (omega arith)
 rectangle-at (b ∷ bs) zero past h = refl
 rectangle-at (b ∷ bs) (suc k) past h = behind ∙ rectangle-at bs k past (omega arith)
   where
-    shift : (i j : ℕ) → i ≡ suc (suc (suc (suc j))) → getD (rectanglesOf (b ∷ bs)) i 0 ≡ getD (rectanglesOf bs) j 0
-    shift i j e = ap (λ (n : ℕ). getD (rectanglesOf (b ∷ bs)) n 0) e
+    shift : (i j : ℕ) → i ≡ suc (suc (suc (suc j))) → getD (framesOf (b ∷ bs)) i 0 ≡ getD (framesOf bs) j 0
+    shift i j e = ap (λ (n : ℕ). getD (framesOf (b ∷ bs)) n 0) e
 
-    behind : rectAt (rectanglesOf (b ∷ bs)) (suc k) ≡ rectAt (rectanglesOf bs) k
+    behind : rectAt (framesOf (b ∷ bs)) (suc k) ≡ rectAt (framesOf bs) k
     behind = λ i. record {
       x0 = shift (4 * suc k) (4 * k) (omega arith) i;
       y0 = shift (4 * suc k + 1) (4 * k + 1) (omega arith) i;
@@ -129,15 +129,15 @@ module _ (ink : Ink) (l : Limits) (w h : ℕ) where
   unfolding boxIn
   box-inside r I f = frame-inside ink (l .«box_overshoot_fraction») r w h I (has-frame r f)
 
-  pub boxes-inside : (glyphs : List ℕ) → AllInside w h glyphs → AllInside w h (rectanglesOf (boxesOf ink l glyphs))
+  pub boxes-inside : (glyphs : List ℕ) → AllInside w h glyphs → AllInside w h (framesOf (boxesOf ink l glyphs))
   boxes-inside glyphs inside k m =
       let bs = boxesOf ink l glyphs in
       let ks = chosen ink l glyphs (count glyphs) in
       let E = every-box ink l glyphs in
       let place = getD ks k 0 in
       let past = boxOf ink l (rectAt glyphs place) in
-      let here : k < length bs = omega (arith, rectangles-long bs, has-numbers (length (rectanglesOf bs)) k m) in
+      let here : k < length bs = omega (arith, rectangles-long bs, has-numbers (length (framesOf bs)) k m) in
       let listed : k < length ks = omega (arith, E .as-many) in
       let glyph = E .no-other place (at-in ks k listed) in
-      let is : rectAt (rectanglesOf bs) k ≡ past .bbox = rectangle-at bs k past here ∙ ap (λ (b : CheckBox). b .bbox) (E .box k past listed) in
+      let is : rectAt (framesOf bs) k ≡ past .bbox = rectangle-at bs k past here ∙ ap (λ (b : CheckBox). b .bbox) (E .box k past listed) in
       subst (Inside w h) (sym is) (box-inside (rectAt glyphs place) (inside place (glyph .0)) (glyph .1))

@@ -16,7 +16,7 @@ use Rattle.boxes.specs.declared.limits.Limits.{Limits}
 use Rattle.boxes.specs.declared.found.CheckBox.{CheckBox}
 use Rattle.boxes.specs.declared.found.Found.{Found}
 use Rattle.boxes.specs.declared.found.Found.the-variants.{PassedOver, Box}
-use Rattle.boxes.specs.Boxes.{boxesBelow, rectanglesOf, marksOf, coveragesOf}
+use Rattle.boxes.specs.Boxes.{boxesBelow, framesOf, marksOf, coveragesOf}
 use Rattle.boxes.specs.Steps.{foundOf, listed, RoomAt, Stored, Ready, Made}
 use Rattle.boxes.proofs.EveryBox.{boxes-next, boxes-none, boxes-few, rectangles-long, boxes-inside}
 
@@ -36,7 +36,7 @@ listed-few : (f : Found) → length (listed f) ≤ 1
 listed-few PassedOver = zero-le
 listed-few (Box b) = omega arith
 
-rectangles-append : (xs ys : List CheckBox) → rectanglesOf (xs ++ ys) ≡ rectanglesOf xs ++ rectanglesOf ys
+rectangles-append : (xs ys : List CheckBox) → framesOf (xs ++ ys) ≡ framesOf xs ++ framesOf ys
 rectangles-append xs ys =
     let numbers : CheckBox → List ℕ = λ b. numbersOf (b .bbox) in
     ap concat (map-append numbers xs ys) ∙ concat-append (map numbers xs) (map numbers ys)
@@ -59,7 +59,7 @@ module _ (mask : List ℕ) (w : ℕ) (glyphs : List ℕ) (l : Limits) where
     pub rects-long : length rs ≡ length rs₀
     pub marks-long : length ms ≡ length ms₀
     pub coverages-long : length cs ≡ length cs₀
-    pub rects : rs ≡ written (rectanglesOf (bs k)) rs₀
+    pub rects : rs ≡ written (framesOf (bs k)) rs₀
     pub marks : ms ≡ written (marksOf (bs k)) ms₀
     pub coverages : cs ≡ written (coveragesOf (bs k)) cs₀
 
@@ -72,7 +72,7 @@ module _ (mask : List ℕ) (w : ℕ) (glyphs : List ℕ) (l : Limits) where
         rects-long = refl;
         marks-long = refl;
         coverages-long = refl;
-        rects = sym (ap (λ (b : List CheckBox). written (rectanglesOf b) rs) e);
+        rects = sym (ap (λ (b : List CheckBox). written (framesOf b) rs) e);
         marks = sym (ap (λ (b : List CheckBox). written (marksOf b) ms) e);
         coverages = sym (ap (λ (b : List CheckBox). written (coveragesOf b) cs) e);
       }
@@ -99,12 +99,12 @@ module _ (mask : List ℕ) (w : ℕ) (glyphs : List ℕ) (l : Limits) where
         record {
           up-to = omega arith;
           number = S .number ∙ ap (λ (m : ℕ). m + length ys) (F .number) ∙ sym (ap length next ∙ length-append xs ys);
-          rects-long = ap length (S .rects) ∙ length-sets rs (4 * n) (rectanglesOf ys) ∙ F .rects-long;
+          rects-long = ap length (S .rects) ∙ length-sets rs (4 * n) (framesOf ys) ∙ F .rects-long;
           marks-long = ap length (S .marks) ∙ length-sets ms n (marksOf ys) ∙ F .marks-long;
           coverages-long = ap length (S .coverages) ∙ length-sets cs n (coveragesOf ys) ∙ F .coverages-long;
           rects =
-              run-written (rectanglesOf ys) (rectanglesOf xs) rs₀ (F .rects) (omega (arith, F .number, rectangles-long xs)) (omega (arith, few, rectangles-long ys, R .rects)) (S .rects)
-              (ap rectanglesOf next ∙ rectangles-append xs ys);
+              run-written (framesOf ys) (framesOf xs) rs₀ (F .rects) (omega (arith, F .number, rectangles-long xs)) (omega (arith, few, rectangles-long ys, R .rects)) (S .rects)
+              (ap framesOf next ∙ rectangles-append xs ys);
           marks =
               run-written (marksOf ys) (marksOf xs) ms₀ (F .marks) (F .number ∙ sym (length-map xs (λ b. b .mark))) (omega (arith, few, length-map ys (λ b. b .mark), R .marks)) (S .marks)
               (ap marksOf next ∙ map-append (λ b. b .mark) xs ys);
@@ -119,7 +119,7 @@ module _ (mask : List ℕ) (w : ℕ) (glyphs : List ℕ) (l : Limits) where
       let end : k ≡ count glyphs = omega (arith, F .up-to) in
       record {
         count = F .number ∙ ap (λ (j : ℕ). length (bs j)) end;
-        rects = F .rects ∙ ap (λ (j : ℕ). written (rectanglesOf (bs j)) rs₀) end;
+        rects = F .rects ∙ ap (λ (j : ℕ). written (framesOf (bs j)) rs₀) end;
         marks = F .marks ∙ ap (λ (j : ℕ). written (marksOf (bs j)) ms₀) end;
         coverages = F .coverages ∙ ap (λ (j : ℕ). written (coveragesOf (bs j)) cs₀) end;
         few = omega (arith, F .number, F .up-to, boxes-few (inkAt w mask) l glyphs k);

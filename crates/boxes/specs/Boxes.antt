@@ -64,8 +64,8 @@ pub record EveryBox (ink : Ink) (l : Limits) (glyphs ks : List ℕ) (bs : List C
   pub box : (k : ℕ) (past : CheckBox) → k < length ks → getD bs k past ≡ boxOf ink l (rectAt glyphs (getD ks k 0))
 
 -- What the lists of a page hold: four numbers a box, its mark, its edge coverage.
-abbrev pub rectanglesOf : List CheckBox → List ℕ
-rectanglesOf bs = concat (map (λ b. numbersOf (b .bbox)) bs)
+abbrev pub framesOf : List CheckBox → List ℕ
+framesOf bs = concat (map (λ b. numbersOf (b .bbox)) bs)
 
 abbrev pub marksOf : List CheckBox → List ℕ
 marksOf bs = map (λ b. b .mark) bs

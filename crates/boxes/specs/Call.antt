@@ -16,8 +16,8 @@ use Rattle.params.specs.Settings.{settingsQuestions}
 use Rattle.ink.specs.Ink.{inkAt}
 use Rattle.boxes.specs.declared.Answer.{Answer}
 use Rattle.boxes.specs.declared.found.CheckBox.{CheckBox}
-use Rattle.boxes.specs.Limits.{limitsOf}
-use Rattle.boxes.specs.Boxes.{chosen, boxesOf, EveryBox, rectanglesOf, marksOf, coveragesOf}
+use Rattle.boxes.specs.Limits.{boxLimitsOf}
+use Rattle.boxes.specs.Boxes.{chosen, boxesOf, EveryBox, framesOf, marksOf, coveragesOf}
 
 -- What the call is given; w and h are the levelled sides.
 pub record Given : Type 0 where
@@ -57,11 +57,11 @@ questions g l = givenQuestions g ++ (14, hasRoom g l) ∷ []
 
 -- The boxes of a page, with the limits that its settings give.
 abbrev pub pageBoxes : ℕ → ℕ → Float → List ℕ → List ℕ → RulingsParams → List CheckBox
-pageBoxes w dpi xheight mask glyphs p = boxesOf (inkAt w mask) (limitsOf dpi xheight p) glyphs
+pageBoxes w dpi xheight mask glyphs p = boxesOf (inkAt w mask) (boxLimitsOf dpi xheight p) glyphs
 
 -- The places of its glyph boxes that are not passed over.
 abbrev pub pagePlaces : ℕ → ℕ → Float → List ℕ → List ℕ → RulingsParams → List ℕ
-pagePlaces w dpi xheight mask glyphs p = chosen (inkAt w mask) (limitsOf dpi xheight p) glyphs (count glyphs)
+pagePlaces w dpi xheight mask glyphs p = chosen (inkAt w mask) (boxLimitsOf dpi xheight p) glyphs (count glyphs)
 
 -- The boxes of what is given.
 abbrev pub boxes : Given → List CheckBox
@@ -69,7 +69,7 @@ boxes g = pageBoxes (g .w) (g .dpi) (g .xheight) (g .ink) (g .glyphs) (g .settin
 
 -- What an accepted call leaves: each list is its definition, written from the front, and places past it keep their content.
 pub record Answers (g : Given) (l l′ : Lent) : Type 0 where
-  pub rects : l′ .rects ≡ written (rectanglesOf (boxes g)) (l .rects)
+  pub rects : l′ .rects ≡ written (framesOf (boxes g)) (l .rects)
   pub marks : l′ .marks ≡ written (marksOf (boxes g)) (l .marks)
   pub coverages : l′ .coverages ≡ written (coveragesOf (boxes g)) (l .coverages)
 
@@ -90,5 +90,5 @@ pub record Boxes (g : Given) (l l′ : Lent) (a : Answer) : Type 0 where
   pub answers : a .number ≡ 0 → Answers g l l′
   pub demand3 :
       a .number ≡ 0
-      → EveryBox (inkAt (g .w) (g .ink)) (limitsOf (g .dpi) (g .xheight) (g .settings)) (g .glyphs)
+      → EveryBox (inkAt (g .w) (g .ink)) (boxLimitsOf (g .dpi) (g .xheight) (g .settings)) (g .glyphs)
       (pagePlaces (g .w) (g .dpi) (g .xheight) (g .ink) (g .glyphs) (g .settings)) (boxes g)

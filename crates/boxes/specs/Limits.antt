@@ -16,8 +16,8 @@ abbrev pub minSideOf : ℕ → Float → RulingsParams → Float
 minSideOf dpi xheight p = maximumNumber (mul binary64 (p .«box_min_xh») xheight) (mul binary64 (p .«box_min_in») (whole dpi))
 
 -- The limits that the settings, the dpi and the x-height give.
-unfoldable pub limitsOf : ℕ → Float → RulingsParams → Limits
-limitsOf dpi xheight p =
+unfoldable pub boxLimitsOf : ℕ → Float → RulingsParams → Limits
+boxLimitsOf dpi xheight p =
     record {
       «min_size» = mul binary64 (p .«box_min_xh») xheight;
       slack = slackOf xheight p;

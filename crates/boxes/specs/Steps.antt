@@ -20,7 +20,7 @@ use Rattle.boxes.specs.declared.found.Found.the-variants.{PassedOver, Bo
 use Rattle.boxes.specs.declared.frame.Framed.{Framed}
 use Rattle.boxes.specs.declared.frame.Framed.the-variants.{Nothing, Frame}
 use Rattle.boxes.specs.Tests.{hasFrame, frameOf, runShare}
-use Rattle.boxes.specs.Boxes.{frameMissed, boxIn, passedOver, boxOf, boxesOf, rectanglesOf, marksOf, coveragesOf}
+use Rattle.boxes.specs.Boxes.{frameMissed, boxIn, passedOver, boxOf, boxesOf, framesOf, marksOf, coveragesOf}
 
 -- The bands along the sides of a frame as rectangles inside it, which the code reads; law `edges-are` says that they have the edges' ink.
 abbrev pub topBand : Rect → ℕ → Rect
@@ -64,7 +64,7 @@ pub record RoomAt (n : ℕ) (rs ms : List ℕ) (cs : List Float) : Type 0 where
 
 -- What was found is stored after n boxes.
 pub record Stored (found : Found) (n : ℕ) (rs ms : List ℕ) (cs : List Float) (rs′ ms′ : List ℕ) (cs′ : List Float) (n′ : ℕ) : Type 0 where
-  pub rects : rs′ ≡ sets rs (4 * n) (rectanglesOf (listed found))
+  pub rects : rs′ ≡ sets rs (4 * n) (framesOf (listed found))
   pub marks : ms′ ≡ sets ms n (marksOf (listed found))
   pub coverages : cs′ ≡ sets cs n (coveragesOf (listed found))
   pub number : n′ ≡ n + length (listed found)
@@ -82,8 +82,8 @@ pub record Made (mask : List ℕ) (w : ℕ) (glyphs : List ℕ) (l : Limits) (rs
     (rs′ ms′ : List ℕ) (cs′ : List Float) (n : ℕ) : Type 0 where
   pub few : n ≤ count glyphs
   pub count : n ≡ length (boxesOf (inkAt w mask) l glyphs)
-  pub rects : rs′ ≡ written (rectanglesOf (boxesOf (inkAt w mask) l glyphs)) rs
+  pub rects : rs′ ≡ written (framesOf (boxesOf (inkAt w mask) l glyphs)) rs
   pub marks : ms′ ≡ written (marksOf (boxesOf (inkAt w mask) l glyphs)) ms
   pub coverages : cs′ ≡ written (coveragesOf (boxesOf (inkAt w mask) l glyphs)) cs
-  pub in-picture : (h : ℕ) → AllInside w h glyphs → AllInside w h (rectanglesOf (boxesOf (inkAt w mask) l glyphs))
-  pub below-8192 : AllInside 8192 8192 (rectanglesOf (boxesOf (inkAt w mask) l glyphs))
+  pub in-picture : (h : ℕ) → AllInside w h glyphs → AllInside w h (framesOf (boxesOf (inkAt w mask) l glyphs))
+  pub below-8192 : AllInside 8192 8192 (framesOf (boxesOf (inkAt w mask) l glyphs))

@@ -1,6 +1,6 @@
 // The sizes and shares that the tests compare with, worked out once a page.
 ghost use mathlib.Core.Path.{_≡_};
-ghost use Rattle.boxes.specs.Limits.{limitsOf};
+ghost use Rattle.boxes.specs.Limits.{boxLimitsOf};
 use params::settings::RulingsParams;
 
 pub struct Limits {
@@ -17,7 +17,7 @@ pub struct Limits {
 }
 
 pub fn limits_of(dpi: u16, xheight: f64, p: RulingsParams) -> Limits
-    ensures { λ l. ⌜ l ≡ limitsOf dpi xheight p ⌝ }
+    ensures { λ l. ⌜ l ≡ boxLimitsOf dpi xheight p ⌝ }
 {
     let min_size = p.box_min_xh * xheight;
     // A box is at least this many pixels on a side: round letters pass the other tests at 8 px.

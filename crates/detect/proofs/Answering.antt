@@ -19,7 +19,7 @@ use Rattle.ink.specs.Ink.{inkAt}
 use Rattle.segments.proofs.Demand as Segments
 use Rattle.segments.proofs.Rectangles.{all-wider}
 use Rattle.tables.proofs.Demand as Tables
-use Rattle.boxes.specs.Limits.{limitsOf}
+use Rattle.boxes.specs.Limits.{boxLimitsOf}
 use Rattle.boxes.proofs.EveryBox.{every-box}
 use Rattle.grids.proofs.Demand as Grids
 use Rattle.findings.specs.Made.{everyFinite}
@@ -123,7 +123,7 @@ module _ (g : Page) (l : Lent) where
           pieces-read = D .pieces-read;
           printed = Tables.demand3 (Page.rects g) (Page.directions g) (Page.printed g) (Page.tableLimits g);
           printed-read = D .printed-read;
-          every-box = every-box (inkAt (g .sides .w) (g .ink)) (limitsOf (g .dpi) (g .xheight) (g .settings)) (g .glyphs);
+          every-box = every-box (inkAt (g .sides .w) (g .ink)) (boxLimitsOf (g .dpi) (g .xheight) (g .settings)) (g .glyphs);
           boxes = Grids.demand3 (Page.boxRects g) (alignLimit (g .settings) (g .xheight)) (g .settings .«grid_min_boxes»);
           boxes-read = D .boxes-read;
           reading-read = D .reading-read;

@@ -19,15 +19,15 @@ kindNumber (Grid boxes ticked second) = 18
 kindNumber (Fold vertical length) = 19
 
 -- A fold's direction: 0 for horizontal and 1 for vertical.
-abbrev pub directionNumber : Bool → ℕ
-directionNumber vertical = cond vertical 1 0
+abbrev pub foldNumber : Bool → ℕ
+foldNumber vertical = cond vertical 1 0
 
 -- The whole facts of a kind, three places; those that it doesn't use hold 0.
 abbrev pub firstFact : Kind → ℕ
 firstFact (Table rows columns rulings second) = rows
 firstFact (FreeRules horizontal vertical longest second) = horizontal
 firstFact (Grid boxes ticked second) = boxes
-firstFact (Fold vertical length) = directionNumber vertical
+firstFact (Fold vertical length) = foldNumber vertical
 
 abbrev pub secondFact : Kind → ℕ
 secondFact (Table rows columns rulings second) = columns

@@ -1,6 +1,6 @@
 // A finding is one of four kinds, each with its own facts.
 ghost use mathlib.Core.Path.{_≡_};
-ghost use Rattle.evidence.specs.Finding.{directionNumber, rowOf, finiteEvidence, finiteFinding};
+ghost use Rattle.evidence.specs.Finding.{foldNumber, rowOf, finiteEvidence, finiteFinding};
 use layout::rect::PageRect;
 
 // A value, the threshold that it is held against, and its clamped log likelihood ratio.
@@ -59,7 +59,7 @@ pub struct Row {
 
 // 0 for horizontal and 1 for vertical.
 fn direction(vertical: bool) -> u32
-    ensures { λ r. ⌜ r ≡ directionNumber vertical ⌝ }
+    ensures { λ r. ⌜ r ≡ foldNumber vertical ⌝ }
 {
     if vertical { 1 } else { 0 }
 }

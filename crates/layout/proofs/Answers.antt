@@ -11,7 +11,7 @@ use lib.Signed.{nonNeg}
 use borrow.Author.Tests.{leb-true, ltb-true, eqb-true, le-leb, lt-ltb, eq-eqb}
 use Rattle.layout.specs.declared.sides.Sides.{Sides}
 use Rattle.layout.specs.Sides.{sideFits, levelledSidesFit, sidesFit, rasterFits}
-use Rattle.layout.specs.Tables.{entry, entryFits, entriesFit, tablesLong, tablesFit}
+use Rattle.layout.specs.Tables.{entry, entryFits, entriesFit, shearsLong, shearsFit}
 use Rattle.layout.specs.Steps.{Table, Sheared}
 use Rattle.lists.proofs.Every.{and-both, every-at, every-of}
 use Rattle.layout.proofs.Every.{and-parts}
@@ -96,16 +96,16 @@ module _ (n limit : ℕ) (table : List ℤ) where
   table-of t = every-of (length table) (entryFits limit table) (λ i m. and-both (whole-not-below (getD table i (pos 0)) (entry table i) (t .whole i m)) (le-leb (entry table i) limit (t .most i (omega (arith, t .long)))))
 
 module _ (sides : Sides) (shear shear-x : List ℤ) where
-  pub long-yes : tablesLong sides shear shear-x ≡ true → (length shear ≡ sides .pw) × (length shear-x ≡ sides .h)
+  pub long-yes : shearsLong sides shear shear-x ≡ true → (length shear ≡ sides .pw) × (length shear-x ≡ sides .h)
   long-yes h =
       let p = and-parts (eqb (length shear) (sides .pw)) (eqb (length shear-x) (sides .h)) h in
       (eqb-true (length shear) (sides .pw) (p .0), eqb-true (length shear-x) (sides .h) (p .1))
 
-  pub long-of : length shear ≡ sides .pw → length shear-x ≡ sides .h → tablesLong sides shear shear-x ≡ true
+  pub long-of : length shear ≡ sides .pw → length shear-x ≡ sides .h → shearsLong sides shear shear-x ≡ true
   long-of p q = and-both (eq-eqb (length shear) (sides .pw) p) (eq-eqb (length shear-x) (sides .h) q)
 
   -- questions 1, 3 and 4 together
-  pub sheared-yes : sidesFit sides ≡ true → tablesLong sides shear shear-x ≡ true → tablesFit sides shear shear-x ≡ true → Sheared sides shear shear-x
+  pub sheared-yes : sidesFit sides ≡ true → shearsLong sides shear shear-x ≡ true → shearsFit sides shear shear-x ≡ true → Sheared sides shear shear-x
   sheared-yes s l f =
       let a = sides-yes sides s in
       let long = long-yes l in
@@ -119,7 +119,7 @@ module _ (sides : Sides) (shear shear-x : List ℤ) where
         rows = table-yes (sides .h) (sides .w - sides .pw) shear-x (long .1) (fit .1);
       }
 
-  pub sheared-of : Sheared sides shear shear-x → (tablesLong sides shear shear-x ≡ true) × (tablesFit sides shear shear-x ≡ true)
+  pub sheared-of : Sheared sides shear shear-x → (shearsLong sides shear shear-x ≡ true) × (shearsFit sides shear shear-x ≡ true)
   sheared-of s = (
     long-of (s .columns .long) (s .rows .long),
     and-both (table-of (sides .pw) (sides .h - sides .ph) shear (s .columns)) (table-of (sides .h) (sides .w - sides .pw) shear-x (s .rows)),

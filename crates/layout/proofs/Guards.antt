@@ -12,7 +12,7 @@ use Rattle.questions.proofs.FirstMissed.{all-yes}
 use Rattle.layout.specs.declared.sides.Sides.{Sides}
 use Rattle.rects.specs.declared.Rect.{Rect}
 use Rattle.layout.specs.Sides.{rasterFits}
-use Rattle.layout.specs.Tables.{tablesLong}
+use Rattle.layout.specs.Tables.{shearsLong}
 use Rattle.layout.specs.Steps.{Sheared, Ready}
 use Rattle.layout.specs.Level.{levelled, Levelling}
 use Rattle.layout.specs.Call.{levelQuestions, mapQuestions, LevelGray}
@@ -29,7 +29,7 @@ module _ (sides : Sides) (shear shear-x : List ℤ) where
   pub ready-yes : (gray out : List ℕ) → firstMissed (levelQuestions sides gray shear shear-x (length out)) ≡ 0 → Ready sides gray shear shear-x out
   ready-yes gray out h =
       let yes = all-yes (levelQuestions sides gray shear shear-x (length out)) tt h in
-      let three = and-parts (rasterFits (sides .pw) (sides .ph) (length gray)) (tablesLong sides shear shear-x) (yes .1 .0) in
+      let three = and-parts (rasterFits (sides .pw) (sides .ph) (length gray)) (shearsLong sides shear shear-x) (yes .1 .0) in
       record {
         sheared = sheared-yes sides shear shear-x (yes .0) (three .1) (yes .1 .1 .0);
         grey-long = raster-yes (sides .pw) (sides .ph) (length gray) (three .0);

@@ -10,7 +10,7 @@ use lib.Dec.{leb}
 use borrow.Author.Tests.{leb-true, leb-false}
 use lib.ListN.{length, getD, length-append, List·getD-append}
 use lib.Seq.{ext-getD, getD-append-add}
-use Rattle.layout.specs.Raster.{rowOf, raster}
+use Rattle.layout.specs.Raster.{rasterRow, raster}
 
 pub le-or-lt : (a b : ℕ) → (a ≤ b) ⊎ (b < a)
 le-or-lt a b = at (leb a b) refl
@@ -32,33 +32,33 @@ row-within w h {y} l = omega (arith, rows-apart w l, mul-comm w h)
 
 -- ---- what a row and a raster hold
 
-pub row-length : (w : ℕ) (f : ℕ → ℕ) → length (rowOf w f) ≡ w
-unfolding rowOf
+pub row-length : (w : ℕ) (f : ℕ → ℕ) → length (rasterRow w f) ≡ w
+unfolding rasterRow
 row-length zero f = refl
-row-length (suc w) f = length-append (rowOf w f) (f w ∷ []) ∙ omega (arith, row-length w f)
+row-length (suc w) f = length-append (rasterRow w f) (f w ∷ []) ∙ omega (arith, row-length w f)
 
 snoc-at : (xs : List ℕ) (v : ℕ) (n i : ℕ) → length xs ≡ n → i ≡ n → getD (xs ++ (v ∷ [])) i 0 ≡ v
 snoc-at xs v n i l e = ap (λ (k : ℕ). getD (xs ++ (v ∷ [])) k 0) (omega arith) ∙ getD-append-add xs (v ∷ []) 0 0
 
-pub row-at : (w : ℕ) (f : ℕ → ℕ) (x : ℕ) → x < w → getD (rowOf w f) x 0 ≡ f x
-unfolding rowOf
+pub row-at : (w : ℕ) (f : ℕ → ℕ) (x : ℕ) → x < w → getD (rasterRow w f) x 0 ≡ f x
+unfolding rasterRow
 row-at zero f x h = absurd (omega arith)
 row-at (suc w) f x h =
     ⊎-elim
-    (λ (e : x ≡ w). snoc-at (rowOf w f) (f w) w x (row-length w f) e ∙ ap f (sym e))
-    (λ (m : x < w). List·getD-append (rowOf w f) (f w ∷ []) 0 x (omega (arith, row-length w f)) ∙ row-at w f x m)
+    (λ (e : x ≡ w). snoc-at (rasterRow w f) (f w) w x (row-length w f) e ∙ ap f (sym e))
+    (λ (m : x < w). List·getD-append (rasterRow w f) (f w ∷ []) 0 x (omega (arith, row-length w f)) ∙ row-at w f x m)
     (eq-or-lt-of-le (le-of-suc-le-suc h))
 
 pub raster-length : (w h : ℕ) (f : ℕ → ℕ → ℕ) → length (raster w h f) ≡ w * h
 unfolding raster
 raster-length w zero f = sym (mul-zero w)
-raster-length w (suc h) f = length-append (raster w h f) (rowOf w (λ x. f x h)) ∙ omega (arith, raster-length w h f, row-length w (λ x. f x h), mul-suc w h)
+raster-length w (suc h) f = length-append (raster w h f) (rasterRow w (λ x. f x h)) ∙ omega (arith, raster-length w h f, row-length w (λ x. f x h), mul-suc w h)
 
 pub raster-at : (w h : ℕ) (f : ℕ → ℕ → ℕ) (x y : ℕ) → x < w → y < h → getD (raster w h f) (y * w + x) 0 ≡ f x y
 unfolding raster
 raster-at w zero f x y p q = absurd (omega arith)
 raster-at w (suc h) f x y p q =
-    let rest = rowOf w (λ x. f x h) in
+    let rest = rasterRow w (λ x. f x h) in
     ⊎-elim
     (λ (e : y ≡ h).
     ap (λ (k : ℕ). getD (raster w h f ++ rest) k 0) (ap (λ (k : ℕ). k * w + x) e ∙ omega (arith, raster-length w h f, mul-comm w h))

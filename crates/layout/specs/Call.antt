@@ -15,7 +15,7 @@ use Rattle.layout.specs.declared.calls.Mapped.the-variants.{Place, Refus
 use Rattle.layout.specs.declared.calls.MappedRect.{MappedRect}
 use Rattle.layout.specs.declared.calls.MappedRect.the-variants.{Area, RefusedArea}
 use Rattle.layout.specs.Sides.{sidesFit, rasterFits}
-use Rattle.layout.specs.Tables.{tablesLong, tablesFit}
+use Rattle.layout.specs.Tables.{shearsLong, shearsFit}
 use Rattle.rects.specs.Rects.{inside}
 use Rattle.layout.specs.Level.{levelled, Levelling}
 use Rattle.layout.specs.ToPage.{toPage, rectToPage}
@@ -24,8 +24,8 @@ use Rattle.layout.specs.ToPage.{toPage, rectToPage}
 abbrev pub levelQuestions : Sides → List ℕ → List ℤ → List ℤ → ℕ → List Question
 levelQuestions sides gray shear shear-x room =
     (1, sidesFit sides)
-    ∷ (3, rasterFits (sides .pw) (sides .ph) (length gray) && tablesLong sides shear shear-x)
-    ∷ (4, tablesFit sides shear shear-x)
+    ∷ (3, rasterFits (sides .pw) (sides .ph) (length gray) && shearsLong sides shear shear-x)
+    ∷ (4, shearsFit sides shear shear-x)
     ∷ (14, rasterFits (sides .w) (sides .h) room)
     ∷ []
 
@@ -41,8 +41,8 @@ pub record LevelGray (sides : Sides) (gray : List ℕ) (shear shear-x : List ℤ
 abbrev pub mapQuestions : Sides → List ℤ → List ℤ → Rect → List Question
 mapQuestions sides shear shear-x r =
     (1, sidesFit sides)
-    ∷ (3, tablesLong sides shear shear-x)
-    ∷ (4, tablesFit sides shear shear-x)
+    ∷ (3, shearsLong sides shear shear-x)
+    ∷ (4, shearsFit sides shear shear-x)
     ∷ (6, inside (sides .w) (sides .h) r)
     ∷ []
 

@@ -22,9 +22,9 @@ unfoldable pub entriesFit : ℕ → List ℤ → Bool
 entriesFit limit table = everyBelow (length table) (entryFits limit table)
 
 -- Question 3 of the tables: `shear` one entry per page column, `shear_x` one per levelled row.
-abbrev pub tablesLong : Sides → List ℤ → List ℤ → Bool
-tablesLong sides shear shear-x = eqb (length shear) (sides .pw) && eqb (length shear-x) (sides .h)
+abbrev pub shearsLong : Sides → List ℤ → List ℤ → Bool
+shearsLong sides shear shear-x = eqb (length shear) (sides .pw) && eqb (length shear-x) (sides .h)
 
 -- Question 4: every `shear` entry from 0 to height − page height, every `shear_x` entry from 0 to width − page width.
-abbrev pub tablesFit : Sides → List ℤ → List ℤ → Bool
-tablesFit sides shear shear-x = entriesFit (sides .h - sides .ph) shear && entriesFit (sides .w - sides .pw) shear-x
+abbrev pub shearsFit : Sides → List ℤ → List ℤ → Bool
+shearsFit sides shear shear-x = entriesFit (sides .h - sides .ph) shear && entriesFit (sides .w - sides .pw) shear-x

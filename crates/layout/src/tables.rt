@@ -2,7 +2,7 @@
 ghost use mathlib.Core.Path.{_≡_};
 ghost use Prim.Native.Nat.{_≤_, _<_};
 ghost use lib.ListN.{length};
-ghost use Rattle.layout.specs.Tables.{entry, entriesFit, entryFits, tablesLong, tablesFit};
+ghost use Rattle.layout.specs.Tables.{entry, entriesFit, entryFits, shearsLong, shearsFit};
 ghost use Rattle.layout.specs.Steps.{NotBelow, Run};
 use crate::sides::Sides;
 
@@ -57,7 +57,7 @@ pub fn run_end(table: &[i32], from: usize) -> usize
 
 // Question 3 of the tables.
 pub fn tables_long(sides: Sides, shear: &[i32], shear_x: &[i32]) -> bool
-    ensures { λ r. ⌜ r ≡ tablesLong sides (now (shear .entry)) (now («shear_x» .entry)) ⌝ }
+    ensures { λ r. ⌜ r ≡ shearsLong sides (now (shear .entry)) (now («shear_x» .entry)) ⌝ }
 {
     (shear.len() == sides.pw) & (shear_x.len() == sides.h)
 }
@@ -65,7 +65,7 @@ pub fn tables_long(sides: Sides, shear: &[i32], shear_x: &[i32]) -> bool
 // Question 4.
 pub fn tables_fit(sides: Sides, shear: &[i32], shear_x: &[i32]) -> bool
     requires { ⌜ (sides .pw ≤ sides .w) × (sides .ph ≤ sides .h) ⌝ }
-    ensures { λ r. ⌜ r ≡ tablesFit sides (now (shear .entry)) (now («shear_x» .entry)) ⌝ }
+    ensures { λ r. ⌜ r ≡ shearsFit sides (now (shear .entry)) (now («shear_x» .entry)) ⌝ }
 {
     let down = entries_fit(shear, sides.h - sides.ph);
     let across = entries_fit(shear_x, sides.w - sides.pw);

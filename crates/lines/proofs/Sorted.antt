@@ -11,7 +11,7 @@ use lib.Seq.{getD-take}
 use Rattle.lists.proofs.Keep.{getD-map}
 use Rattle.order.specs.Order.{keyAt, sortedIndexes}
 use Rattle.order.proofs.Computed.{sorted-by, sorted-length}
-use Rattle.lines.specs.Lines.{inOrder, exceeds, lineAt, linesTo}
+use Rattle.lines.specs.Lines.{sortedPositions, exceeds, lineAt, linesTo}
 use Rattle.lines.specs.Steps.{Ordered}
 
 module _ (positions o : List ℕ) (O : Ordered positions o) (i : ℕ) (l : i < length positions) where
@@ -21,7 +21,7 @@ module _ (positions o : List ℕ) (O : Ordered positions o) (i : ℕ) (l : i < l
   pub place-within : getD o i 0 < length positions
   place-within = rw same-place (sorted-by (keyAt positions) (length positions) .within i l)
 
-  pub position-at : getD positions (getD o i 0) 0 ≡ getD (inOrder positions) i 0
+  pub position-at : getD positions (getD o i 0) 0 ≡ getD (sortedPositions positions) i 0
   position-at =
       ap (keyAt positions) same-place
       ∙ sym (getD-map (keyAt positions) (sortedIndexes positions) i 0 (rw (sorted-length (keyAt positions) (length positions)) l))

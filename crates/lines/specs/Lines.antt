@@ -7,8 +7,8 @@ use lib.ListN.{length, getD}
 use Rattle.order.specs.Order.{keyAt, sortedIndexes}
 
 -- The positions in sorted order.
-abbrev pub inOrder : List ℕ → List ℕ
-inOrder positions = map (keyAt positions) (sortedIndexes positions)
+abbrev pub sortedPositions : List ℕ → List ℕ
+sortedPositions positions = map (keyAt positions) (sortedIndexes positions)
 
 -- A position exceeds the previous one by more than the limit.
 abbrev pub exceeds : ℕ → ℕ → ℕ → Bool
@@ -28,4 +28,4 @@ linesTo limit sorted (suc k) = suc (lineAt limit sorted k)
 
 -- How many lines positions make.
 abbrev pub lineCount : ℕ → List ℕ → ℕ
-lineCount limit positions = linesTo limit (inOrder positions) (length positions)
+lineCount limit positions = linesTo limit (sortedPositions positions) (length positions)

@@ -5,11 +5,11 @@ use Prim.Native.Nat.{ℕ, _≤_, _<_, _^_}
 use lib.ListN.{length, take}
 use Rattle.lists.specs.Lists.{below, written}
 use Rattle.order.specs.Order.{sortedIndexes}
-use Rattle.lines.specs.Lines.{inOrder, lineAt, lineCount}
+use Rattle.lines.specs.Lines.{sortedPositions, lineAt, lineCount}
 
 -- The line number of each position, in sorted order.
 abbrev pub lineNumbers : ℕ → List ℕ → List ℕ
-lineNumbers limit positions = map (lineAt limit (inOrder positions)) (below (length positions))
+lineNumbers limit positions = map (lineAt limit (sortedPositions positions)) (below (length positions))
 
 -- Two lists have room for n numbers of 32 bits.
 pub record Room (n : ℕ) (o l : List ℕ) : Type 0 where

@@ -3,7 +3,7 @@ ghost use mathlib.Core.Path.{_≡_};
 ghost use mathlib.Core.Bool.{cond};
 ghost use Prim.Native.Nat.{suc, _+_, _<_, _^_};
 ghost use lib.ListN.{length, getD};
-ghost use Rattle.lines.specs.Lines.{inOrder, exceeds};
+ghost use Rattle.lines.specs.Lines.{sortedPositions, exceeds};
 ghost use Rattle.lines.specs.Steps.{Room, Ordered, Lined, Numbered};
 
 // Does a position exceed the previous one by more than the limit?
@@ -19,7 +19,7 @@ fn exceeds(limit: u64, previous: u64, position: u64) -> bool
 // The position at place i of the sorted order.
 fn sorted_at(positions: &[u64], order: &[u32], i: usize) -> u64
     requires { ⌜ Ordered (now positions) (now order) × (i < length (now positions)) ⌝ }
-    ensures { λ r. ⌜ r ≡ getD (inOrder (now (positions .entry))) i 0 ⌝ }
+    ensures { λ r. ⌜ r ≡ getD (sortedPositions (now (positions .entry))) i 0 ⌝ }
 {
     let index = order[i] as usize;
     positions[index]

@@ -15,7 +15,7 @@ use Rattle.params.specs.Limits.{IsLimit, acrossLimit, gapLimit, alignSetting, a
 use Rattle.ink.specs.Ink.{inkAt}
 use Rattle.segments.specs.Call as Segments
 use Rattle.tables.specs.Call as Tables
-use Rattle.boxes.specs.Limits.{limitsOf}
+use Rattle.boxes.specs.Limits.{boxLimitsOf}
 use Rattle.boxes.specs.Boxes.{EveryBox}
 use Rattle.boxes.specs.Call.{pagePlaces}
 use Rattle.grids.specs.Reading.{readingOrder}
@@ -98,7 +98,7 @@ pub record Demand3 (g : Page) (l′ : Lent) : Type 0 where
   pub printed : Tables.Demand3 (Page.rects g) (Page.directions g) (Page.printed g) (Page.tableLimits g)
   pub printed-read : ReadAs (Page.printedSets g) (l′ .rules .printed-members) (l′ .rules .printed-ends) (length (Page.printedSets g))
   pub every-box :
-      EveryBox (inkAt (g .sides .w) (g .ink)) (limitsOf (g .dpi) (g .xheight) (g .settings)) (g .glyphs)
+      EveryBox (inkAt (g .sides .w) (g .ink)) (boxLimitsOf (g .dpi) (g .xheight) (g .settings)) (g .glyphs)
       (pagePlaces (g .sides .w) (g .dpi) (g .xheight) (g .ink) (g .glyphs) (g .settings)) (Page.boxes g)
   pub boxes : Grids.Demand3 (Page.boxRects g) (alignLimit (g .settings) (g .xheight)) (g .settings .«grid_min_boxes»)
   pub boxes-read : ReadAs (Page.boxSets g) (l′ .marks .members) (l′ .marks .ends) (length (Page.boxSets g))

@@ -9,10 +9,10 @@ use Rattle.layout.specs.Level.{levelled}
 use Rattle.params.specs.declared.settings.RulingsParams.{RulingsParams}
 use Rattle.params.specs.declared.settings.FusionParams.{FusionParams}
 use Rattle.segments.specs.Call as Segments
-use Rattle.segments.specs.Rulings.{rectanglesOf, directionsOf, contrastsOf}
+use Rattle.segments.specs.Rulings.{rulingRects, directionsOf, contrastsOf}
 use Rattle.segments.specs.Printed.{printedPlaces, faintPlaces}
 use Rattle.shapes.specs.declared.limits.Limits.{Limits}
-use Rattle.shapes.specs.Limits.{limitsOf}
+use Rattle.shapes.specs.Limits.{tableLimitsOf}
 use Rattle.tables.specs.Call as Tables
 use Rattle.boxes.specs.declared.found.CheckBox.{CheckBox}
 use Rattle.boxes.specs.Boxes as Boxes
@@ -50,7 +50,7 @@ module _ (g : Page) where
   pieceSets = Segments.setsOf (g .xheight) (g .pieces) (g .settings)
 
   abbrev pub rects : List ℕ
-  rects = rectanglesOf (g .pieces) pieceSets
+  rects = rulingRects (g .pieces) pieceSets
 
   abbrev pub directions : List ℕ
   directions = directionsOf (g .pieces) pieceSets
@@ -68,7 +68,7 @@ module _ (g : Page) where
   -- ---- tables, found among the printed rulings
 
   abbrev pub tableLimits : Limits
-  tableLimits = limitsOf (g .settings) (g .xheight)
+  tableLimits = tableLimitsOf (g .settings) (g .xheight)
 
   -- the sets of printed rulings, by smallest index: places among the printed
   abbrev pub printedSets : List (List ℕ)
@@ -103,7 +103,7 @@ module _ (g : Page) where
   boxes = pageBoxes (g .sides .w) (g .dpi) (g .xheight) (g .ink) (g .glyphs) (g .settings)
 
   abbrev pub boxRects : List ℕ
-  boxRects = Boxes.rectanglesOf boxes
+  boxRects = Boxes.framesOf boxes
 
   abbrev pub marks : List ℕ
   marks = Boxes.marksOf boxes

@@ -5,7 +5,7 @@ use lib.ListN.{length}
 use Rattle.questions.specs.Questions.{Question}
 use Rattle.rects.specs.Rects.{count, countFits, allInside}
 use Rattle.layout.specs.Sides.{sidesFit, rasterFits}
-use Rattle.layout.specs.Tables.{tablesLong, tablesFit}
+use Rattle.layout.specs.Tables.{shearsLong, shearsFit}
 use Rattle.params.specs.Scan.{scanQuestions}
 use Rattle.params.specs.Settings.{validateQuestions, fusionQuestions, freeRulesQuestions}
 use Rattle.findings.specs.Made.{everyFinite}
@@ -17,8 +17,8 @@ abbrev pub givenQuestions : Page → List Question
 givenQuestions g =
     (1, sidesFit (g .sides))
     ∷ scanQuestions (g .dpi) (g .xheight)
-    ++ (3, rasterFits (g .sides .pw) (g .sides .ph) (length (g .gray)) && rasterFits (g .sides .w) (g .sides .h) (length (g .ink)) && tablesLong (g .sides) (g .shear) (g .shear-x))
-    ∷ (4, tablesFit (g .sides) (g .shear) (g .shear-x))
+    ++ (3, rasterFits (g .sides .pw) (g .sides .ph) (length (g .gray)) && rasterFits (g .sides .w) (g .sides .h) (length (g .ink)) && shearsLong (g .sides) (g .shear) (g .shear-x))
+    ∷ (4, shearsFit (g .sides) (g .shear) (g .shear-x))
     ∷ (5, countFits 4096 (g .pieces) && countFits 16384 (g .glyphs))
     ∷ (6, allInside (g .sides .w) (g .sides .h) (g .pieces) && allInside (g .sides .w) (g .sides .h) (g .glyphs))
     ∷ validateQuestions (g .settings)

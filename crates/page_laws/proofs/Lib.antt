@@ -2,3 +2,4 @@
 pub mod Demand1
 pub mod Local
 pub mod Printed
+pub mod Agreement

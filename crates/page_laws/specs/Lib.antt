@@ -1,2 +1,3 @@
 -- What a reader of `detect`'s contract may conclude from it.
 pub mod Demand1
+pub mod Agreement

@@ -1,4 +1,4 @@
--- What the tests of one float say, in `math`'s terms.
+-- What the tests of floatOne float say, in `math`'s terms.
 use mathlib.Core.Path.{_≡_, refl, ap}
 use Prim.Native.Nat.{ℕ}
 use mathlib.Core.Bool.{Bool, true, false, _&&_, _||_}
@@ -11,7 +11,7 @@ use borrow.Author.Tests.{not-true}
 use Rattle.math.specs.Constants.{zero, million}
 use Rattle.math.proofs.Bound.{AtMost}
 use Rattle.math.proofs.Limit.{size-at-most, between-at-most, from-zero, above-zero}
-use Rattle.params.specs.Constants.{one, largestXheight}
+use Rattle.params.specs.Constants.{floatOne, largestXheight}
 use Rattle.params.specs.Scan.{xheightInRange}
 use Rattle.params.specs.Settings.{bounded, notNegative, fromZeroToOne, fromZeroToMillion}
 use Rattle.params.proofs.Every.{both-true}
@@ -20,7 +20,7 @@ million-value : HasValue million false 1_000_000 1
 unfolding ofBits
 million-value = (refl, refl)
 
-one-value : HasValue one false 1 1
+one-value : HasValue floatOne false 1 1
 unfolding ofBits
 one-value = (refl, refl)
 
@@ -49,7 +49,7 @@ pub between-says : (n : ℕ) (x y : Float) → HasValue y false n 1 → le zero 
 between-says n x y v h k = record { at-most = between-at-most n x y v h k; not-below = from-zero x h }
 
 pub from-zero-to-one-says : (x : Float) → fromZeroToOne x ≡ true → From0To 1 x
-from-zero-to-one-says x h = let b = both-true (le zero x) (le x one) h in between-says 1 x one one-value (b .0) (b .1)
+from-zero-to-one-says x h = let b = both-true (le zero x) (le x floatOne) h in between-says 1 x floatOne one-value (b .0) (b .1)
 
 pub from-zero-to-million-says : (x : Float) → fromZeroToMillion x ≡ true → From0To 1_000_000 x
 from-zero-to-million-says x h =

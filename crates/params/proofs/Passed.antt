@@ -12,7 +12,7 @@ use Rattle.questions.specs.Questions.{Question, firstMissed}
 use Rattle.questions.proofs.FirstMissed.{AllYes, all-yes}
 use Rattle.params.specs.declared.settings.RulingsParams.{RulingsParams}
 use Rattle.params.specs.declared.settings.FusionParams.{FusionParams}
-use Rattle.params.specs.Settings.{every, fromZeroToOne, floatSettings, lengthSettings, shareSettings}
+use Rattle.params.specs.Settings.{allOf, fromZeroToOne, floatSettings, lengthSettings, shareSettings}
 use Rattle.params.specs.Settings.{floatsBounded, lengthsNotNegative, boxSizesOrdered, sharesInRange, minimaInRange, capsInRange, freeRulesCounted}
 use Rattle.params.specs.Settings.{validateQuestions, fusionQuestions, freeRulesQuestions, settingsQuestions}
 use Rattle.params.proofs.Every.{each, both-true}
@@ -116,7 +116,7 @@ pub record SharesInRange (p : RulingsParams) : Type 0 where
 pub shares-say : (p : RulingsParams) → sharesInRange p ≡ true → SharesInRange p
 unfolding sharesInRange
 shares-say p h =
-    let b = both-true (every fromZeroToOne (shareSettings p)) (leb (p .«box_tolerance_px») 3) h in
+    let b = both-true (allOf fromZeroToOne (shareSettings p)) (leb (p .«box_tolerance_px») 3) h in
     let e = each from-zero-to-one-says (shareSettings p) (b .0) in
     record {
       «box_edge_coverage» = e .0;

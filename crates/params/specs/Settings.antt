@@ -7,14 +7,14 @@ use lib.Ieee.Scale.{finite}
 use Rattle.math.specs.Constants.{zero, million}
 use Rattle.math.specs.Select.{absolute}
 use Rattle.questions.specs.Questions.{Question}
-use Rattle.params.specs.Constants.{one}
+use Rattle.params.specs.Constants.{floatOne}
 use Rattle.params.specs.declared.settings.RulingsParams.{RulingsParams}
 use Rattle.params.specs.declared.settings.FusionParams.{FusionParams}
 
 -- Every float of a list passes a test.
-abbrev pub every : (Float → Bool) → List Float → Bool
-every test [] = true
-every test (x ∷ xs) = test x && every test xs
+abbrev pub allOf : (Float → Bool) → List Float → Bool
+allOf test [] = true
+allOf test (x ∷ xs) = test x && allOf test xs
 
 -- Finite, size at most 1,000,000.
 abbrev pub bounded : Float → Bool
@@ -26,7 +26,7 @@ notNegative x = not (lt x zero)
 
 -- From 0 to 1.
 abbrev pub fromZeroToOne : Float → Bool
-fromZeroToOne x = le zero x && le x one
+fromZeroToOne x = le zero x && le x floatOne
 
 -- Finite, 0 to 1,000,000.
 abbrev pub fromZeroToMillion : Float → Bool
@@ -87,11 +87,11 @@ shareSettings p =
 
 -- Question 7: all 25 float settings finite, size at most 1,000,000.
 unfoldable pub floatsBounded : RulingsParams → Bool
-floatsBounded p = every bounded (floatSettings p)
+floatsBounded p = allOf bounded (floatSettings p)
 
 -- Question 8: the lengths not below 0.
 unfoldable pub lengthsNotNegative : RulingsParams → Bool
-lengthsNotNegative p = every notNegative (lengthSettings p)
+lengthsNotNegative p = allOf notNegative (lengthSettings p)
 
 -- Question 9: box_max_xh at least box_min_xh.
 unfoldable pub boxSizesOrdered : RulingsParams → Bool
@@ -99,7 +99,7 @@ boxSizesOrdered p = le (p .«box_min_xh») (p .«box_max_xh»)
 
 -- Question 10: the shares from 0 to 1, box_tolerance_px at most 3.
 unfoldable pub sharesInRange : RulingsParams → Bool
-sharesInRange p = every fromZeroToOne (shareSettings p) && leb (p .«box_tolerance_px») 3
+sharesInRange p = allOf fromZeroToOne (shareSettings p) && leb (p .«box_tolerance_px») 3
 
 -- Question 11: table_min_horizontal and table_min_vertical at least 1, grid_min_boxes at least 2.
 unfoldable pub minimaInRange : RulingsParams → Bool
@@ -107,7 +107,7 @@ minimaInRange p = leb 1 (p .«table_min_horizontal») && leb 1 (p .«table_min_v
 
 -- Question 12: llr_clip and group_cap finite, 0 to 1,000,000.
 unfoldable pub capsInRange : FusionParams → Bool
-capsInRange f = every fromZeroToMillion (f .«llr_clip» ∷ f .«group_cap» ∷ [])
+capsInRange f = allOf fromZeroToMillion (f .«llr_clip» ∷ f .«group_cap» ∷ [])
 
 -- Question 13: min_free_rules at least 1.
 unfoldable pub freeRulesCounted : RulingsParams → Bool

@@ -1,7 +1,7 @@
 // Questions 7 to 13: the settings.
 ghost use mathlib.Core.Path.{_≡_};
 ghost use Rattle.questions.specs.Questions.{firstMissed};
-ghost use Rattle.params.specs.Settings.{every, bounded, floatsBounded, lengthsNotNegative};
+ghost use Rattle.params.specs.Settings.{allOf, bounded, floatsBounded, lengthsNotNegative};
 ghost use Rattle.params.specs.Settings.{sharesInRange, minimaInRange, fromZeroToMillion, capsInRange};
 ghost use Rattle.params.specs.Settings.{validateQuestions, settingsQuestions, fusionQuestions, freeRulesQuestions};
 use crate::settings::FusionParams;
@@ -16,7 +16,7 @@ fn bounded(x: f64) -> bool
 
 // No early way out, so that the invariant is one equation.
 fn all_bounded(values: &[f64]) -> bool
-    ensures { λ r. ⌜ r ≡ every bounded (now (values .entry)) ⌝ }
+    ensures { λ r. ⌜ r ≡ allOf bounded (now (values .entry)) ⌝ }
 {
     let mut all = true;
     let mut i = 0;

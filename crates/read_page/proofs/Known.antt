@@ -11,7 +11,7 @@ use Rattle.rects.specs.Rects.{count, countFits, allInside}
 use Rattle.rects.specs.Steps.{AllInside}
 use Rattle.rects.proofs.Questions.{count-says, all-inside-says}
 use Rattle.layout.specs.Sides.{rasterFits}
-use Rattle.layout.specs.Tables.{tablesLong}
+use Rattle.layout.specs.Tables.{shearsLong}
 use Rattle.layout.specs.Steps.{Sheared}
 use Rattle.layout.proofs.Answers.{SidesAre, sides-yes, raster-yes, sheared-yes}
 use Rattle.params.specs.Scan.{dpiGiven, xheightInRange, xheightQuestions}
@@ -38,7 +38,7 @@ known g z =
     let y = all-yes (givenQuestions g) tt z in
     let grey = rasterFits (g .sides .pw) (g .sides .ph) (length (g .gray)) in
     let inked = rasterFits (g .sides .w) (g .sides .h) (length (g .ink)) in
-    let long = tablesLong (g .sides) (g .shear) (g .shear-x) in
+    let long = shearsLong (g .sides) (g .shear) (g .shear-x) in
     let q3 = y .1 .1 .0 in
     let q5 = y .1 .1 .1 .1 .0 in
     let q6 = y .1 .1 .1 .1 .1 .0 in

@@ -9,7 +9,7 @@ use Rattle.rects.specs.Rects.{count}
 use Rattle.rects.specs.Steps.{AllInside}
 use Rattle.params.specs.Limits.{alignLimit}
 use Rattle.params.specs.Steps.{SettingsPassed}
-use Rattle.boxes.specs.Limits.{limitsOf}
+use Rattle.boxes.specs.Limits.{boxLimitsOf}
 use Rattle.boxes.specs.Steps as Boxes
 use Rattle.boxes.proofs.Accepted.{ready}
 use Rattle.grids.specs.Call as GridsCall
@@ -24,18 +24,18 @@ use Rattle.read_page.proofs.Rules.{front, still}
 
 module _ (g : Page) (K : Known g) (l : MarkLists) (Q : MarkRoom (count (g .glyphs)) l) where
   pub boxes-ready : {bx mk : List ℕ} {cv : List Float} → bx ≡ l .boxes → mk ≡ l .marks → cv ≡ l .coverages
-      → Boxes.Ready (g .ink) (g .sides .w) (g .glyphs) (limitsOf (g .dpi) (g .xheight) (g .settings)) bx mk cv
+      → Boxes.Ready (g .ink) (g .sides .w) (g .glyphs) (boxLimitsOf (g .dpi) (g .xheight) (g .settings)) bx mk cv
   boxes-ready eb em ec =
       ready (g .sides .w) (g .sides .h) (g .dpi) (g .xheight) (g .ink) (g .glyphs) (g .settings) (K .sides .w-most) (K .sides .h-most) (K .ink) (K .glyphs) (K .settled)
       (omega (arith, ap length eb, Q .boxes)) (omega (arith, ap length em, Q .marks)) (omega (arith, ap length ec, Q .coverages))
 
   -- what the boxes' stage leaves, of the lists as they were lent
   pub boxed : {bx mk : List ℕ} {cv : List Float} {b′ mk′ : List ℕ} {cv′ : List Float} {n : ℕ} → bx ≡ l .boxes → mk ≡ l .marks → cv ≡ l .coverages
-      → Boxes.Made (g .ink) (g .sides .w) (g .glyphs) (limitsOf (g .dpi) (g .xheight) (g .settings)) bx mk cv b′ mk′ cv′ n
-      → Boxes.Made (g .ink) (g .sides .w) (g .glyphs) (limitsOf (g .dpi) (g .xheight) (g .settings)) (l .boxes) (l .marks) (l .coverages) b′ mk′ cv′ n
-  boxed {b′ = b′} {mk′} {cv′} {n} eb em ec M = transport (λ i. Boxes.Made (g .ink) (g .sides .w) (g .glyphs) (limitsOf (g .dpi) (g .xheight) (g .settings)) (eb i) (em i) (ec i) b′ mk′ cv′ n) M
+      → Boxes.Made (g .ink) (g .sides .w) (g .glyphs) (boxLimitsOf (g .dpi) (g .xheight) (g .settings)) bx mk cv b′ mk′ cv′ n
+      → Boxes.Made (g .ink) (g .sides .w) (g .glyphs) (boxLimitsOf (g .dpi) (g .xheight) (g .settings)) (l .boxes) (l .marks) (l .coverages) b′ mk′ cv′ n
+  boxed {b′ = b′} {mk′} {cv′} {n} eb em ec M = transport (λ i. Boxes.Made (g .ink) (g .sides .w) (g .glyphs) (boxLimitsOf (g .dpi) (g .xheight) (g .settings)) (eb i) (em i) (ec i) b′ mk′ cv′ n) M
 
-  module _ {b mk : List ℕ} {cv : List Float} {n : ℕ} (M : Boxes.Made (g .ink) (g .sides .w) (g .glyphs) (limitsOf (g .dpi) (g .xheight) (g .settings)) (l .boxes) (l .marks) (l .coverages) b mk cv n) where
+  module _ {b mk : List ℕ} {cv : List Float} {n : ℕ} (M : Boxes.Made (g .ink) (g .sides .w) (g .glyphs) (boxLimitsOf (g .dpi) (g .xheight) (g .settings)) (l .boxes) (l .marks) (l .coverages) b mk cv n) where
     pub few : length (Page.boxes g) ≤ count (g .glyphs)
     few = omega (arith, M .few, M .count)
 

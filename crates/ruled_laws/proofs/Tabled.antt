@@ -12,7 +12,7 @@ use Rattle.lists.proofs.Sizes.{keep-size-le}
 use Rattle.sets.specs.Closed.{Below, Closed}
 use Rattle.sets.proofs.Ascending.{ascending-below, sublist}
 use Rattle.sets.proofs.Grown.{closedSets-listed}
-use Rattle.lines.specs.Lines.{inOrder}
+use Rattle.lines.specs.Lines.{sortedPositions}
 use Rattle.lines.proofs.Sorted.{lines-few}
 use Rattle.rects.specs.Rects.{count, rectAt}
 use Rattle.rects.specs.Steps.{Inside, AllInside}
@@ -43,7 +43,7 @@ lines-short : (cluster : ℕ) (horizontal : Bool) (s : ℕ → Segment) (set : L
 unfolding linesOf
 lines-short cluster horizontal s set =
     let ps = positions horizontal s set in
-    omega (arith, lines-few cluster (inOrder ps) (length ps), length-map (members horizontal s set) (λ i. s i .centre2 / 2), keep-size-le (λ i. inDirection horizontal (s i)) set)
+    omega (arith, lines-few cluster (sortedPositions ps) (length ps), length-map (members horizontal s set) (λ i. s i .centre2 / 2), keep-size-le (λ i. inDirection horizontal (s i)) set)
 
 module _ (rects directions chosen : List ℕ) (lim : Limits) where
   -- The ruling at each index.

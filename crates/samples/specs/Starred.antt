@@ -13,7 +13,7 @@ use Rattle.order.specs.Order as Order
 use Rattle.rects.specs.declared.Rect.{Rect}
 use Rattle.layout.specs.declared.sides.Sides.{Sides}
 use Rattle.layout.specs.declared.rect.PageRect.{PageRect}
-use Rattle.layout.specs.Raster.{rowOf, raster}
+use Rattle.layout.specs.Raster.{rasterRow, raster}
 use Rattle.layout.specs.Level.{columnShows, placeShows, levelled}
 use Rattle.layout.specs.ToPage.{rectToPage}
 use Rattle.lines.specs.Lines as Lines
@@ -148,7 +148,7 @@ starred a b limit least =
 
 -- In every row the definition computes what document 01 says.
 pub starred-hold : (a b limit least : ℕ) → map (λ row. row .computed) (starred a b limit least) ≡ map (λ row. row .said) (starred a b limit least)
-unfolding rowOf raster columnShows placeShows touching horizontal centre2 start end joinsEnd Order.sortedBy Order.place Lines.lineAt Lines.linesTo
+unfolding rasterRow raster columnShows placeShows touching horizontal centre2 start end joinsEnd Order.sortedBy Order.place Lines.lineAt Lines.linesTo
     Listing.grown Listing.closedSet Listing.closedSets segmentOf touches linesOf isTable tableNumbers freeNumbers joinedEnds shareOf Boxes.similar Grids.gridNumbers
     Ieee.ofInt Ieee.div Ieee.sub Ieee.mul Ieee.round Ieee.ofBits Ieee.isNan Ieee.lt Ieee.le Ieee.eq
 starred-hold a b limit least = refl

@@ -13,7 +13,7 @@ use Rattle.sets.specs.Closed.{Below, Listed}
 use Rattle.sets.specs.Listing.{membersOf, endsFrom, ReadAs}
 use Rattle.sets.proofs.Listings.{read-as}
 use Rattle.pieces.specs.Pieces.{Touch}
-use Rattle.segments.specs.Rulings.{pieceSets, keysOf, orderedSets}
+use Rattle.segments.specs.Rulings.{pieceSets, rulingKeys, orderedSets}
 use Rattle.segments.specs.Steps.{Parts, partsOf, inOrder, Strung, RoomForSets, Described, RoomForRulings, SetsListed, SetsOrdered, Made}
 use Rattle.segments.proofs.Parts.{parts-are, part-is, order-is}
 use Rattle.segments.proofs.Demand.{pieces-listed, rulings-listed, rulings-long, rulings-size, keys-long}
@@ -70,11 +70,11 @@ module _ (pieces : List ℕ) (across gap : ℕ) {ls le ls′ le′ : List ℕ} {
       unfolding orderedSets
       in-order =
           let ss = pieceSets pieces across gap in
-          let ks = sortedIndexes (keysOf pieces ss) in
+          let ks = sortedIndexes (rulingKeys pieces ss) in
           let same = parts-are ss ls le listed-room listed-ends-room (L .strung .members) (L .strung .ends) (L .count) in
           order-is ss ls le listed-room listed-ends-room o ks order (L .strung .members) (L .strung .ends) (L .count)
-          (sorted .content ∙ ap (λ (t : List (List ℕ)). written (sortedIndexes (keysOf pieces t)) o) same)
-          (sorted-length (keyAt (keysOf pieces ss)) (length (keysOf pieces ss)) ∙ keys-long pieces across gap)
+          (sorted .content ∙ ap (λ (t : List (List ℕ)). written (sortedIndexes (rulingKeys pieces t)) o) same)
+          (sorted-length (keyAt (rulingKeys pieces ss)) (length (rulingKeys pieces ss)) ∙ keys-long pieces across gap)
 
       pub sets-room : {ms es : List ℕ} → count pieces ≤ 4096 → count pieces ≤ length ms → count pieces ≤ length es → RoomForSets (inOrder ls′ le′ r order) ms es
       sets-room {ms} {es} h m e =

@@ -23,7 +23,7 @@ use Rattle.rects.specs.Steps.{AllInside, Inside}
 use Rattle.rects.specs.Around.{around}
 use Rattle.rects.proofs.Around.{around-smallest, around-inside}
 use Rattle.pieces.specs.Pieces.{horizontal, touch, Touch}
-use Rattle.segments.specs.Rulings.{pieceSets, keyOf, keysOf, orderedSets, directionOf, directionNumber, StandsBefore}
+use Rattle.segments.specs.Rulings.{pieceSets, rulingKey, rulingKeys, orderedSets, directionOf, directionNumber, StandsBefore}
 use Rattle.segments.specs.Call.{Demand3, InOrder}
 use Rattle.pieces.proofs.Touching.{touching-agrees}
 use Rattle.segments.proofs.Order.{key-orders, key-tells, size-sorted}
@@ -51,13 +51,13 @@ module _ (pieces : List ℕ) (across gap : ℕ) where
   ss = pieceSets pieces across gap
 
   abbrev keys : List ℕ
-  keys = keysOf pieces ss
+  keys = rulingKeys pieces ss
 
   abbrev order : List ℕ
   order = sortedIndexes keys
 
   pub keys-long : length keys ≡ length ss
-  keys-long = length-map ss (λ s. keyOf (around pieces s))
+  keys-long = length-map ss (λ s. rulingKey (around pieces s))
 
   order-long : length order ≡ length ss
   order-long = sorted-length (keyAt keys) (length keys) ∙ keys-long
@@ -104,8 +104,8 @@ module _ (pieces : List ℕ) (across gap : ℕ) where
   unfolding orderedSets
   from-order k h = getD-map (λ m. getD ss m []) order k [] h
 
-  key-at : (a : ℕ) → a < length ss → keyAt keys a ≡ keyOf (around pieces (getD ss a []))
-  key-at a h = getD-of (λ s. keyOf (around pieces s)) ss a 0 [] h
+  key-at : (a : ℕ) → a < length ss → keyAt keys a ≡ rulingKey (around pieces (getD ss a []))
+  key-at a h = getD-of (λ s. rulingKey (around pieces s)) ss a 0 [] h
 
   module _ (inside : AllInside 8192 8192 pieces) where
     set-inside : (a : ℕ) → a < length ss → Inside 8192 8192 (around pieces (getD ss a []))

@@ -14,13 +14,13 @@ use Rattle.order.specs.Order.{place, sortedBy}
 use Rattle.rects.specs.declared.Rect.{Rect}
 use Rattle.rects.proofs.Questions.{Inside}
 use Rattle.sets.proofs.Sizes.{concat-one}
-use Rattle.segments.specs.Rulings.{keyOf, Earlier}
+use Rattle.segments.specs.Rulings.{rulingKey, Earlier}
 
 -- ---- the key
 
 module _ {a b : Rect} (ia : Inside 8192 8192 a) (ib : Inside 8192 8192 b) where
   -- the key orders as y0, x0, y1, x1 do one after the other
-  pub key-orders : keyOf a < keyOf b → Earlier a b
+  pub key-orders : rulingKey a < rulingKey b → Earlier a b
   key-orders h = by-y0 (decLt (a .y0) (b .y0))
     where
       by-x1 : a .y0 ≡ b .y0 → a .x0 ≡ b .x0 → a .y1 ≡ b .y1 → a .x1 < b .x1
@@ -42,7 +42,7 @@ module _ {a b : Rect} (ia : Inside 8192 8192 a) (ib : Inside 8192 8192 b) where
           let e : a .y0 ≡ b .y0 = omega (arith, ia .wide, ia .high, ia .right, ia .bottom, ib .wide, ib .high, ib .right, ib .bottom) in inr (e, by-x0 e (decLt (a .x0) (b .x0)))
 
   -- equal keys are those of equal rectangles
-  pub key-tells : keyOf a ≡ keyOf b → a ≡ b
+  pub key-tells : rulingKey a ≡ rulingKey b → a ≡ b
   key-tells h =
       let y0 : a .y0 ≡ b .y0 = omega (arith, ia .wide, ia .high, ia .right, ia .bottom, ib .wide, ib .high, ib .right, ib .bottom) in
       let x0 : a .x0 ≡ b .x0 = omega (arith, ia .wide, ia .high, ia .right, ia .bottom, ib .wide, ib .high, ib .right, ib .bottom) in

@@ -19,7 +19,7 @@ use Rattle.params.specs.Settings.{settingsQuestions}
 use Rattle.params.specs.Limits.{IsLimit, acrossLimit, gapLimit}
 use Rattle.pieces.specs.Pieces.{horizontal, Touch}
 use Rattle.segments.specs.declared.segments.Answer.{Answer}
-use Rattle.segments.specs.Rulings.{orderedSets, directionOf, Near, rectanglesOf, directionsOf, contrastsOf, StandsBefore}
+use Rattle.segments.specs.Rulings.{orderedSets, directionOf, Near, rulingRects, directionsOf, contrastsOf, StandsBefore}
 
 -- What the call is given: the levelled raster and its sides, the x-height, the settings and the rule pieces.
 pub record Given : Type 0 where
@@ -81,7 +81,7 @@ allSets g = setsOf (g .xheight) (g .pieces) (g .settings)
 
 -- What an accepted call leaves: each list is its definition, written from the front, and places past it keep their content.
 pub record Answers (g : Given) (l l′ : Lent) : Type 0 where
-  pub rects : l′ .rects ≡ written (rectanglesOf (g .pieces) (allSets g)) (l .rects)
+  pub rects : l′ .rects ≡ written (rulingRects (g .pieces) (allSets g)) (l .rects)
   pub directions : l′ .directions ≡ written (directionsOf (g .pieces) (allSets g)) (l .directions)
   pub contrasts : l′ .contrasts ≡ written (contrastsOf (g .raster) (g .w) (g .h) (g .pieces) (allSets g)) (l .contrasts)
   pub piece-members : l′ .piece-members ≡ written (concat (allSets g)) (l .piece-members)

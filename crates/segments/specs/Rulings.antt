@@ -21,17 +21,17 @@ abbrev pub pieceSets : List ℕ → ℕ → ℕ → List (List ℕ)
 pieceSets pieces across gap = closedSets (count pieces) (touch pieces across gap)
 
 -- y0, x0, y1, x1 as one number. Of coordinates below 8,192 it orders as the four do one after the other (`key-orders`).
-abbrev pub keyOf : Rect → ℕ
-keyOf r = ((r .y0 * 8192 + r .x0) * 8192 + r .y1) * 8192 + r .x1
+abbrev pub rulingKey : Rect → ℕ
+rulingKey r = ((r .y0 * 8192 + r .x0) * 8192 + r .y1) * 8192 + r .x1
 
 -- The keys of the smallest rectangles around some sets.
-abbrev pub keysOf : List ℕ → List (List ℕ) → List ℕ
-keysOf pieces ss = map (λ s. keyOf (around pieces s)) ss
+abbrev pub rulingKeys : List ℕ → List (List ℕ) → List ℕ
+rulingKeys pieces ss = map (λ s. rulingKey (around pieces s)) ss
 
 -- The sets of pieces in the order of their rulings: by key, and equal keys by smallest piece index, since so `pieceSets` has them.
 unfoldable pub orderedSets : List ℕ → ℕ → ℕ → List (List ℕ)
 orderedSets pieces across gap =
-    let ss = pieceSets pieces across gap in map (λ k. getD ss k []) (sortedIndexes (keysOf pieces ss))
+    let ss = pieceSets pieces across gap in map (λ k. getD ss k []) (sortedIndexes (rulingKeys pieces ss))
 
 -- The direction of a set of pieces: that of its first one, and so of each (`Demand3`'s field `direction`).
 abbrev pub directionOf : List ℕ → List ℕ → Bool
@@ -55,8 +55,8 @@ abbrev pub directionNumber : Bool → ℕ
 directionNumber h = cond h 0 1
 
 -- What is listed of the rulings of some sets: rectangles, directions, contrasts.
-abbrev pub rectanglesOf : List ℕ → List (List ℕ) → List ℕ
-rectanglesOf pieces ss = concat (map (λ s. numbersOf (around pieces s)) ss)
+abbrev pub rulingRects : List ℕ → List (List ℕ) → List ℕ
+rulingRects pieces ss = concat (map (λ s. numbersOf (around pieces s)) ss)
 
 abbrev pub directionsOf : List ℕ → List (List ℕ) → List ℕ
 directionsOf pieces ss = map (λ s. directionNumber (directionOf pieces s)) ss

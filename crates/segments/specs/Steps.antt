@@ -19,7 +19,7 @@ use Rattle.layout.specs.Sides.{levelledSidesFit}
 use Rattle.params.specs.Scan.{xheightInRange}
 use Rattle.params.specs.Settings.{settingsQuestions}
 use Rattle.segments.specs.declared.ruling.Ruling.{Ruling}
-use Rattle.segments.specs.Rulings.{keysOf, rulingOf, Near, rectanglesOf, directionsOf, contrastsOf}
+use Rattle.segments.specs.Rulings.{rulingKeys, rulingOf, Near, rulingRects, directionsOf, contrastsOf}
 
 -- What `split` leaves: both lists of places from the front, and their counts.
 pub record SplitByContrast (p : RulingsParams) (contrasts : List Float) (ps fs ps′ fs′ : List ℕ) (a b : ℕ) : Type 0 where
@@ -86,7 +86,7 @@ pub record RulingMade (raster : List ℕ) (w h : ℕ) (pieces s : List ℕ) (r :
 -- The rulings of some sets were written from the front of three lists.
 pub record Described (raster : List ℕ) (w h : ℕ) (pieces : List ℕ) (ss : List (List ℕ)) (rs ds : List ℕ) (cs : List Float)
     (rs′ ds′ : List ℕ) (cs′ : List Float) : Type 0 where
-  pub rects : rs′ ≡ written (rectanglesOf pieces ss) rs
+  pub rects : rs′ ≡ written (rulingRects pieces ss) rs
   pub directions : ds′ ≡ written (directionsOf pieces ss) ds
   pub contrasts : cs′ ≡ written (contrastsOf raster w h pieces ss) cs
   pub near : (k : ℕ) → k < length ss → NearOwn raster w h pieces (getD ss k [])
@@ -113,7 +113,7 @@ pub record SetsListed (ss : List (List ℕ)) (n : ℕ) (ls le ls′ le′ : List
 
 -- The numbers of the first n parts of a listing were written in the order of their rectangles.
 pub record SetsOrdered (pieces ls le : List ℕ) (n : ℕ) (o o′ : List ℕ) : Type 0 where
-  pub content : o′ ≡ written (sortedIndexes (keysOf pieces (partsOf ls le n))) o
+  pub content : o′ ≡ written (sortedIndexes (rulingKeys pieces (partsOf ls le n))) o
 
 -- Five lists have an entry for each of n pieces.
 pub record WorkRoom (n : ℕ) (ps ls le ws ks : List ℕ) : Type 0 where

@@ -5,14 +5,14 @@ ghost use lib.ListN.{length, take};
 ghost use Rattle.lists.specs.Lists.{written};
 ghost use Rattle.order.specs.Order.{sortedIndexes};
 ghost use Rattle.rects.specs.Steps.{Inside, AllInside};
-ghost use Rattle.segments.specs.Rulings.{keyOf, keysOf};
+ghost use Rattle.segments.specs.Rulings.{rulingKey, rulingKeys};
 ghost use Rattle.segments.specs.Steps.{Parts, partsOf};
 use rects::Rect;
 
 // y0, x0, y1, x1 as one number.
 fn key_of(r: Rect) -> u64
     requires { ⌜ Inside 8192 8192 r ⌝ }
-    ensures { λ k. ⌜ k ≡ keyOf r ⌝ }
+    ensures { λ k. ⌜ k ≡ rulingKey r ⌝ }
 {
     (((r.y0 as u64) * 8192 + r.x0 as u64) * 8192 + r.y1 as u64) * 8192 + r.x1 as u64
 }
@@ -21,7 +21,7 @@ fn key_of(r: Rect) -> u64
 pub fn set_keys(pieces: &[u32], members: &[u32], ends: &[u32], count: usize, keys: &mut [u64])
     requires { ⌜ AllInside 8192 8192 (now pieces) × Parts (now pieces) (now members) (now ends) count × (count ≤ length (now keys)) ⌝ }
     ensures { λ _.
-        ⌜ now (keys .exit) ≡ written (keysOf (now (pieces .entry)) (partsOf (now (members .entry)) (now (ends .entry)) count)) (now (keys .entry)) ⌝ }
+        ⌜ now (keys .exit) ≡ written (rulingKeys (now (pieces .entry)) (partsOf (now (members .entry)) (now (ends .entry)) count)) (now (keys .entry)) ⌝ }
 {
     let mut k = 0;
     while k < count {

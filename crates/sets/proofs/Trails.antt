@@ -11,7 +11,7 @@ use borrow.Author.Tests.{eq-eqb, ne-eqb}
 use Rattle.lists.specs.Lists.{below, keep}
 use Rattle.lists.proofs.Sizes.{keep-one, keep-gap, keep-none}
 use Rattle.sets.specs.Steps.{classOf, entry, Flat, First, Threaded, Rising, Trail}
-use Rattle.sets.specs.Threads.{found, none, last, more}
+use Rattle.sets.specs.Steps.{found, none, last, more}
 
 first-rises : {n : ℕ} {p : List ℕ} {r j k : ℕ} → First n p r (suc j) k → (k ≡ 0) ⊎ ((j < k) × (k < n))
 first-rises (found l m e clear) = inr (l, m)

@@ -1,7 +1,7 @@
 // What the settings and the x-height come to, in pixels.
 ghost use mathlib.Core.Path.{_≡_};
 ghost use Rattle.params.specs.Steps.{SettingsPassed};
-ghost use Rattle.shapes.specs.Limits.{limitsOf};
+ghost use Rattle.shapes.specs.Limits.{tableLimitsOf};
 use params::settings::RulingsParams;
 
 pub struct Limits {
@@ -13,7 +13,7 @@ pub struct Limits {
 
 pub fn limits_of(p: RulingsParams, xheight: f64) -> Limits
     requires { ⌜ SettingsPassed p xheight ⌝ }
-    ensures { λ r. ⌜ r ≡ limitsOf p xheight ⌝ }
+    ensures { λ r. ⌜ r ≡ tableLimitsOf p xheight ⌝ }
 {
     let join = params::pixels::limit(p.join_tol_xh, xheight);
     let cluster = params::pixels::limit(p.line_cluster_xh, xheight);

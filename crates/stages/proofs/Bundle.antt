@@ -7,7 +7,7 @@ use denote.Ref.{RefT}
 use lib.ListN.{length, set, take}
 use lib.Seq.{getD-set-other, length-take-le}
 use Rattle.page.specs.Lent.{listAt}
-use Rattle.stages.specs.Bundles.{Only, Kept}
+use Rattle.stages.specs.Steps.{Only, Kept}
 
 empty : {A : Type 0} (xs : List A) → length xs ≡ 0 → xs ≡ []
 empty [] e = refl

@@ -3,11 +3,11 @@ ghost use Prim.Native.Nat.{_*_, _≤_};
 ghost use lib.ListN.{length, take};
 ghost use Rattle.params.specs.Steps.{SettingsPassed};
 ghost use Rattle.params.specs.Limits.{alignLimit};
-ghost use Rattle.boxes.specs.Limits.{limitsOf};
+ghost use Rattle.boxes.specs.Limits.{boxLimitsOf};
 ghost use Rattle.boxes.specs.Steps as Boxes;
 ghost use Rattle.grids.specs.Steps as Grids;
 ghost use Rattle.page.specs.Lent.{listAt};
-ghost use Rattle.stages.specs.Bundles.{Only, Kept};
+ghost use Rattle.stages.specs.Steps.{Only, Kept};
 use grids::core::Counts;
 use layout::sides::Sides;
 use params::settings::RulingsParams;
@@ -23,8 +23,8 @@ pub fn boxes_in(
     tags: &mut [&mut [u32]; 2],
     values: &mut [&mut [f64]; 3],
 ) -> usize
-    requires { ⌜ Boxes.Ready (now ink) (sides .w) (now glyphs) (limitsOf dpi xheight p) (listAt 1 (now rects)) (listAt 1 (now tags)) (listAt 2 (now values)) ⌝ }
-    ensures { λ n. ⌜ Boxes.Made (now (ink .entry)) (sides .w) (now (glyphs .entry)) (limitsOf dpi xheight p)
+    requires { ⌜ Boxes.Ready (now ink) (sides .w) (now glyphs) (boxLimitsOf dpi xheight p) (listAt 1 (now rects)) (listAt 1 (now tags)) (listAt 2 (now values)) ⌝ }
+    ensures { λ n. ⌜ Boxes.Made (now (ink .entry)) (sides .w) (now (glyphs .entry)) (boxLimitsOf dpi xheight p)
         (listAt 1 (now (rects .entry))) (listAt 1 (now (tags .entry))) (listAt 2 (now (values .entry)))
         (listAt 1 (now (rects .exit))) (listAt 1 (now (tags .exit))) (listAt 2 (now (values .exit))) n
         × Only 1 (now (rects .entry)) (now (rects .exit)) × Only 1 (now (tags .entry)) (now (tags .exit)) × Only 2 (now (values .entry)) (now (values .exit)) ⌝ }

@@ -3,10 +3,10 @@ ghost use Prim.Native.Nat.{_*_, _≤_};
 ghost use lib.ListN.{length, take};
 ghost use Rattle.params.specs.Steps.{SettingsPassed};
 ghost use Rattle.meeting.specs.Steps.{Given};
-ghost use Rattle.shapes.specs.Limits.{limitsOf};
+ghost use Rattle.shapes.specs.Limits.{tableLimitsOf};
 ghost use Rattle.tables.specs.Steps.{Filled, Roomy};
 ghost use Rattle.page.specs.Lent.{listAt};
-ghost use Rattle.stages.specs.Bundles.{Only, Kept};
+ghost use Rattle.stages.specs.Steps.{Only, Kept};
 ghost use Rattle.stages.specs.Steps.{PartsLong};
 use params::settings::RulingsParams;
 use tables::core::Counts;
@@ -49,7 +49,7 @@ fn tables_of(
           work = now order;
           keys = now keys;
         }) ⌝ }
-    ensures { λ r. ⌜ Filled (take (4 * n) (now (rects .entry))) (take n (now (directions .entry))) (take k (now (printed .entry))) (limitsOf p xheight)
+    ensures { λ r. ⌜ Filled (take (4 * n) (now (rects .entry))) (take n (now (directions .entry))) (take k (now (printed .entry))) (tableLimitsOf p xheight)
         (record {
           members = now (members .entry);
           ends = now (ends .entry);
@@ -138,7 +138,7 @@ pub fn tables_in(
           work = listAt 0 (now order);
           keys = listAt 0 (now keys);
         }) ⌝ }
-    ensures { λ r. ⌜ Filled (take (4 * n) (listAt 0 (now (rects .entry)))) (take n (listAt 0 (now (tags .entry)))) (take k (listAt 0 (now (chosen .entry)))) (limitsOf p xheight)
+    ensures { λ r. ⌜ Filled (take (4 * n) (listAt 0 (now (rects .entry)))) (take n (listAt 0 (now (tags .entry)))) (take k (listAt 0 (now (chosen .entry)))) (tableLimitsOf p xheight)
         (record {
           members = listAt 1 (now (members .entry));
           ends = listAt 1 (now (ends .entry));

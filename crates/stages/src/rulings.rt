@@ -5,7 +5,7 @@ ghost use Rattle.params.specs.Steps.{SettingsPassed};
 ghost use Rattle.segments.specs.Call.{setsOf};
 ghost use Rattle.segments.specs.Steps.{SplitByContrast, Ready, Made, RoomForPlaces};
 ghost use Rattle.page.specs.Lent.{listAt};
-ghost use Rattle.stages.specs.Bundles.{Only, Kept};
+ghost use Rattle.stages.specs.Steps.{Only, Kept};
 use layout::sides::Sides;
 use params::settings::RulingsParams;
 use segments::printed::Parted;

@@ -15,7 +15,7 @@ use Rattle.params.specs.declared.settings.RulingsParams.{RulingsParams}
 use Rattle.params.proofs.Limits.{limits}
 use Rattle.shapes.specs.declared.limits.Limits.{Limits}
 use Rattle.params.specs.Steps.{SettingsPassed}
-use Rattle.shapes.specs.Limits.{limitsOf}
+use Rattle.shapes.specs.Limits.{tableLimitsOf}
 use Rattle.meeting.specs.Steps as Meeting
 use Rattle.table_questions.specs.Questions.{tableQuestions}
 use Rattle.tables.specs.Call.{Given, Lent, questions, places, tableLimits, accepted, refusal, Tables}
@@ -24,7 +24,7 @@ use Rattle.tables.proofs.Demand.{demand3}
 use Rattle.tables.proofs.Passing.{forTables, forIndexes, room-is}
 
 -- passed questions bound the limits
-pub join-small : (p : RulingsParams) (xheight : Float) → SettingsPassed p xheight → limitsOf p xheight .join < 2 ^ 32
+pub join-small : (p : RulingsParams) (xheight : Float) → SettingsPassed p xheight → tableLimitsOf p xheight .join < 2 ^ 32
 join-small p xheight S = omega (arith, limits p xheight S .join .at-most)
 
 -- all rulings are chosen
@@ -37,7 +37,7 @@ pub asked : (g : Given) (l : Lent) {number : ℕ} {a b : Bool} → number ≡ fi
 asked g l e ea eb =
     e ∙ ap (λ (room : Bool). firstMissed (tableQuestions (g .xheight) (g .settings) (g .rects) (g .directions) room)) (ap₂ _&&_ ea eb ∙ room-is g l)
 
-pub join-of : (p : RulingsParams) (xheight : Float) {lim : Limits} → lim ≡ limitsOf p xheight → SettingsPassed p xheight → lim .join < 2 ^ 32
+pub join-of : (p : RulingsParams) (xheight : Float) {lim : Limits} → lim ≡ tableLimitsOf p xheight → SettingsPassed p xheight → lim .join < 2 ^ 32
 join-of p xheight e S = rw e (join-small p xheight S)
 
 pub given-all : {rects directions : List ℕ} (n : ℕ) (c : List ℕ) {c′ : List ℕ} → c′ ≡ written (below n) c → Meeting.Given rects directions (below n) → Meeting.Given rects directions (take n c′)

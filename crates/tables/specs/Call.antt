@@ -19,7 +19,7 @@ use Rattle.meeting.specs.Segments.{rulingAt}
 use Rattle.meeting.specs.Meeting.{Touch, shareOf, rulingSets}
 use Rattle.shapes.specs.Shapes.{isTable, rowsOf, columnsOf}
 use Rattle.table_lists.specs.Answers.{tableNumbers, freeNumbers, freeList, placesOf, boundsOf}
-use Rattle.shapes.specs.Limits.{limitsOf}
+use Rattle.shapes.specs.Limits.{tableLimitsOf}
 use Rattle.table_questions.specs.Questions.{tableQuestions}
 use Rattle.tables.specs.declared.Answer.{Answer}
 
@@ -120,7 +120,7 @@ abbrev pub places : Given → List ℕ
 places g = below (count (g .rects))
 
 abbrev pub tableLimits : Given → Shapes.Limits
-tableLimits g = limitsOf (g .settings) (g .xheight)
+tableLimits g = tableLimitsOf (g .settings) (g .xheight)
 
 -- What an accepted call leaves: each list is its definition, written from the front, and places past it keep their content.
 pub record Answers (g : Given) (l l′ : Lent) : Type 0 where

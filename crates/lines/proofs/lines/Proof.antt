@@ -9,7 +9,7 @@ use lib.Seq.{take-at}
 use Rattle.lists.proofs.Keep.{length-values}
 use Rattle.order.specs.Order.{keyAt, sortedIndexes}
 use Rattle.order.proofs.Computed.{sorted-length}
-use Rattle.lines.specs.Lines.{inOrder, lineAt}
+use Rattle.lines.specs.Lines.{sortedPositions, lineAt}
 use Rattle.lines.specs.Steps.{lineNumbers, Room, Ordered, Lined, Numbered}
 use Rattle.lines.proofs.lines.Statement.{statement}
 use Rattle.lines.proofs.lines.Tie as tie
@@ -33,7 +33,7 @@ module _ {positions o o′ : List ℕ} (e : o′ ≡ sortedIndexes positions ++ 
         numbers =
             ap (take (length positions)) (L .numbers)
             ∙ take-at (lineNumbers limit positions) (drop (length (lineNumbers limit positions)) l) (length positions)
-            (length-values (lineAt limit (inOrder positions)) (length positions));
+            (length-values (lineAt limit (sortedPositions positions)) (length positions));
         count = L .count;
       }
 

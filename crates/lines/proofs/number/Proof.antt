@@ -10,7 +10,7 @@ use lib.ListN.{length, getD, set, length-set}
 use Rattle.lists.specs.Lists.{below, written}
 use Rattle.lists.proofs.Written.{written-more}
 use Rattle.lists.proofs.Keep.{length-values, values-more}
-use Rattle.lines.specs.Lines.{inOrder, exceeds, lineAt, linesTo}
+use Rattle.lines.specs.Lines.{sortedPositions, exceeds, lineAt, linesTo}
 use Rattle.lines.specs.Steps.{Lined}
 use Rattle.lines.proofs.Sorted.{prior, line-next, line-low, lines-count}
 use Rattle.lines.proofs.number.Statement.{statement}
@@ -20,25 +20,25 @@ use Rattle.lines.proofs.number.Tie as tie
 record Walk (positions : List ℕ) (limit n : ℕ) (l l′ : List ℕ) (last line i : ℕ) : Type 0 where
   up-to : i ≤ n
   long : length l′ ≡ length l
-  content : l′ ≡ written (map (lineAt limit (inOrder positions)) (below i)) l
-  last-is : last ≡ getD (inOrder positions) (prior i) 0
-  line-is : line ≡ lineAt limit (inOrder positions) (prior i)
+  content : l′ ≡ written (map (lineAt limit (sortedPositions positions)) (below i)) l
+  last-is : last ≡ getD (sortedPositions positions) (prior i) 0
+  line-is : line ≡ lineAt limit (sortedPositions positions) (prior i)
 
 module _ (positions : List ℕ) (limit : ℕ) (l : List ℕ) where
   none : length positions ≡ 0 → Lined positions limit l l 0
   unfolding linesTo
   none h = record { numbers = rw h refl; count = rw h refl }
 
-  begun : {n last : ℕ} → last ≡ getD (inOrder positions) 0 0 → Walk positions limit n l l last 0 0
+  begun : {n last : ℕ} → last ≡ getD (sortedPositions positions) 0 0 → Walk positions limit n l l last 0 0
   unfolding lineAt
   begun e = record { up-to = omega arith; long = refl; content = refl; last-is = e; line-is = refl }
 
   turn : {n : ℕ} {l′ : List ℕ} {last line i position last′ line′ : ℕ} → Walk positions limit n l l′ last line i → i < n → n ≤ length l
-      → position ≡ getD (inOrder positions) i 0 → line′ ≡ cond (exceeds limit last position) (suc line) line → last′ ≡ position
+      → position ≡ getD (sortedPositions positions) i 0 → line′ ≡ cond (exceeds limit last position) (suc line) line → last′ ≡ position
       → Walk positions limit n l (set l′ i line′) last′ line′ (i + 1)
   turn {l′ = l′} {i = i} {line′ = line′} W h room p e q =
-      let f = lineAt limit (inOrder positions) in
-      let same : line′ ≡ f i = line-next limit (inOrder positions) i (W .last-is) (W .line-is) p refl e in
+      let f = lineAt limit (sortedPositions positions) in
+      let same : line′ ≡ f i = line-next limit (sortedPositions positions) i (W .last-is) (W .line-is) p refl e in
       let past : prior (i + 1) ≡ i = ap prior (add-one i) in
       record {
         up-to = omega arith;
@@ -46,20 +46,20 @@ module _ (positions : List ℕ) (limit : ℕ) (l : List ℕ) where
         content =
             written-more (map f (below i)) l line′ (W .content) (length-values f i) (omega arith)
             (values-more f i ∙ ap (λ (v : ℕ). map f (below i) ++ (v ∷ [])) (sym same));
-        last-is = q ∙ p ∙ ap (λ (k : ℕ). getD (inOrder positions) k 0) (sym past);
+        last-is = q ∙ p ∙ ap (λ (k : ℕ). getD (sortedPositions positions) k 0) (sym past);
         line-is = same ∙ ap f (sym past);
       }
 
   line-fits : {n : ℕ} {l′ : List ℕ} {last line i : ℕ} → Walk positions limit n l l′ last line i → line ≤ prior i
-  line-fits {i = i} W = rw (W .line-is) (line-low limit (inOrder positions) (prior i))
+  line-fits {i = i} W = rw (W .line-is) (line-low limit (sortedPositions positions) (prior i))
 
   done : {n : ℕ} {l′ : List ℕ} {last line i : ℕ} → Walk positions limit n l l′ last line i → n ≡ length positions → (n ≡ 0 → ⊥) → n ≤ i
       → Lined positions limit l l′ (line + 1)
   done {i = i} W e some h =
       let end : i ≡ length positions = omega (arith, W .up-to) in
       record {
-        numbers = W .content ∙ ap (λ (m : ℕ). written (map (lineAt limit (inOrder positions)) (below m)) l) end;
-        count = add-one _ ∙ lines-count limit (inOrder positions) i (omega arith) (W .line-is) ∙ ap (linesTo limit (inOrder positions)) end;
+        numbers = W .content ∙ ap (λ (m : ℕ). written (map (lineAt limit (sortedPositions positions)) (below m)) l) end;
+        count = add-one _ ∙ lines-count limit (sortedPositions positions) i (omega arith) (W .line-is) ∙ ap (linesTo limit (sortedPositions positions)) end;
       }
 
 small : {line n : ℕ} (i : ℕ) → line ≤ prior i → i < n → n < 2 ^ 32 → line + 1 < 2 ^ 32

@@ -7,7 +7,7 @@ use native.Mathlib.Numerals.{add-one}
 use native.Mathlib.Omega.{arith}
 use lib.ListN.{length, set, length-set}
 use lib.Seq.{sets}
-use Rattle.sets.specs.Threads.{last, more}
+use Rattle.sets.specs.Steps.{last, more}
 use Rattle.sets.specs.Steps.{entry, Rising, Trail, Fitting, Appended}
 use Rattle.sets.proofs.gather.Statement.{statement}
 use Rattle.sets.proofs.gather.Tie as tie

@@ -9,7 +9,7 @@ use native.Mathlib.Decide.{ℕ-discrete}
 use native.Mathlib.Omega.{arith}
 use lib.ListN.{length, set, length-set}
 use lib.Seq.{getD-set-same, getD-set-other}
-use Rattle.sets.specs.Threads.{found, none}
+use Rattle.sets.specs.Steps.{found, none}
 use Rattle.sets.specs.Steps.{entry, Flat, First, Unthreaded, Threaded}
 use Rattle.sets.proofs.thread.Statement.{statement}
 use Rattle.sets.proofs.thread.Tie as tie

@@ -3,7 +3,7 @@ use borrow.Author.Needs.{needs}
 use mathlib.Core.Path.{_≡_, refl, sym, ap, ap₂, _∙_}
 use lib.Ieee.{binary64, mul}
 use Rattle.math.specs.Sum.{whole}
-use Rattle.boxes.specs.Limits.{slackOf, limitsOf}
+use Rattle.boxes.specs.Limits.{slackOf, boxLimitsOf}
 use Rattle.boxes.proofs.limits.limits_of.Statement.{statement}
 use Rattle.boxes.proofs.limits.limits_of.Tie as tie
 
@@ -14,7 +14,7 @@ max-requires : tie.Need-max-requires
 max-requires c κs = search needs
 
 returns : tie.Need-returns
-unfolding limitsOf
+unfolding boxLimitsOf
 returns c =
     let a = c .before .before .before .before .before .before .args in
     λ i. record {

@@ -6,7 +6,7 @@ use lib.ListN.{length}
 use borrow.Author.Needs.{needs}
 use borrow.Author.Tests.{not-true, not-false}
 use Rattle.layout.specs.Sides.{sidesFit, rasterFits}
-use Rattle.layout.specs.Tables.{tablesLong}
+use Rattle.layout.specs.Tables.{shearsLong}
 use Rattle.layout.proofs.calls.level_question.Statement.{statement}
 use Rattle.layout.proofs.calls.level_question.Tie as tie
 use Rattle.layout.proofs.Answers.{SidesAre, sides-yes}
@@ -30,7 +30,7 @@ raster-fits-requires c κs = let s = sides c in (omega (arith, s .page-wide, s .
 tables-long-requires : tie.Need-tables-long-requires
 tables-long-requires c κs = search needs
 
-three : (c : tie.After-tables-long) → let a = c .before .before .before .before .before .args in c .before .raster-fits .result && c .tables-long .result ≡ rasterFits (a .sides .pw) (a .sides .ph) (length (a .gray .now)) && tablesLong (a .sides) (a .shear .now) (a .shear-x .now)
+three : (c : tie.After-tables-long) → let a = c .before .before .before .before .before .args in c .before .raster-fits .result && c .tables-long .result ≡ rasterFits (a .sides .pw) (a .sides .ph) (length (a .gray .now)) && shearsLong (a .sides) (a .shear .now) (a .shear-x .now)
 three c = ap₂ _&&_ (c .before .raster-fits .ensures) (c .tables-long .ensures)
 
 tables-fit-requires : tie.Need-tables-fit-requires

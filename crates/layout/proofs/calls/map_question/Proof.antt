@@ -3,7 +3,7 @@ use mathlib.Core.Path.{_≡_, sym, _∙_}
 use mathlib.Core.Bool.{true}
 use borrow.Author.Tests.{not-true, not-false}
 use Rattle.layout.specs.Sides.{sidesFit}
-use Rattle.layout.specs.Tables.{tablesLong, tablesFit}
+use Rattle.layout.specs.Tables.{shearsLong, shearsFit}
 use Rattle.layout.proofs.Answers.{sides-yes}
 use borrow.Author.Needs.{needs}
 use Rattle.layout.proofs.calls.map_question.Statement.{statement}
@@ -19,10 +19,10 @@ returns c = simp (sym (c .before .sides-fit .ensures) ∙ not-true _ (c .if1 .ta
 one : (c : tie.Else1) → sidesFit (c .before .before .args .sides) ≡ true
 one c = sym (c .before .sides-fit .ensures) ∙ not-false _ (c .if1 .left)
 
-three : (c : tie.Else2) → let a = c .before .before .before .before .args in tablesLong (a .sides) (a .shear .now) (a .shear-x .now) ≡ true
+three : (c : tie.Else2) → let a = c .before .before .before .before .args in shearsLong (a .sides) (a .shear .now) (a .shear-x .now) ≡ true
 three c = sym (c .before .tables-long .ensures) ∙ not-false _ (c .if2 .left)
 
-four : (c : tie.Else3) → let a = c .before .before .before .before .before .before .args in tablesFit (a .sides) (a .shear .now) (a .shear-x .now) ≡ true
+four : (c : tie.Else3) → let a = c .before .before .before .before .before .before .args in shearsFit (a .sides) (a .shear .now) (a .shear-x .now) ≡ true
 four c = sym (c .before .tables-fit .ensures) ∙ not-false _ (c .if3 .left)
 
 tables-long-requires : tie.Need-tables-long-requires

@@ -10,7 +10,7 @@ use Rattle.questions.specs.Questions.{Question}
 use Rattle.questions.proofs.FirstMissed.{passed}
 use Rattle.rects.specs.Rects.{countFits, allInside}
 use Rattle.layout.specs.Sides.{sidesFit, rasterFits}
-use Rattle.layout.specs.Tables.{tablesLong, tablesFit}
+use Rattle.layout.specs.Tables.{shearsLong, shearsFit}
 use Rattle.layout.proofs.Answers.{SidesAre, sides-yes}
 use Rattle.params.specs.Scan.{scanQuestions}
 use Rattle.params.specs.Settings.{validateQuestions, fusionQuestions, freeRulesQuestions}
@@ -93,8 +93,8 @@ returns-2 c =
     let s = validateQuestions (a .p) ++ fusionQuestions (a .f) ++ freeRulesQuestions (a .p) in
     let q6 : Question = (6, allInside (a .sides .w) (a .sides .h) (a .pieces .now) && allInside (a .sides .w) (a .sides .h) (a .glyphs .now)) in
     let q5 : Question = (5, countFits 4096 (a .pieces .now) && countFits 16384 (a .glyphs .now)) in
-    let q4 : Question = (4, tablesFit (a .sides) (a .shear .now) (a .shear-x .now)) in
-    let q3 : Question = (3, rasterFits (a .sides .pw) (a .sides .ph) (length (a .gray .now)) && rasterFits (a .sides .w) (a .sides .h) (length (a .ink .now)) && tablesLong (a .sides) (a .shear .now) (a .shear-x .now)) in
+    let q4 : Question = (4, shearsFit (a .sides) (a .shear .now) (a .shear-x .now)) in
+    let q3 : Question = (3, rasterFits (a .sides .pw) (a .sides .ph) (length (a .gray .now)) && rasterFits (a .sides .w) (a .sides .h) (length (a .ink .now)) && shearsLong (a .sides) (a .shear .now) (a .shear-x .now)) in
     first-of (scanQuestions (a .dpi) (a .xheight)) (q3 ∷ q4 ∷ q5 ∷ q6 ∷ s) tt (c .before .before .before .before .before .before .before .before .before .before .missed-by-scan .ensures)
     (first-of (q3 ∷ []) (q4 ∷ q5 ∷ q6 ∷ s) tt
     (same-answer 3 (λ i. c .before .before .before .before .before .before .before .before .before .before .before .before .before .before .before .before .before .before .raster-fits .ensures i && c .before .before .before .before .before .before .before .before .before .before .before .before .before .before .before .before .before .raster-fits2 .ensures i && c .before .before .before .before .before .before .before .before .before .before .before .before .before .before .before .before .tables-long .ensures i) (c .before .before .before .before .before .before .before .before .before .asked .ensures))

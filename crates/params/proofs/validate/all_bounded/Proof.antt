@@ -5,13 +5,13 @@ use Prim.Native.Nat.{_≤_, _-_, _+_}
 use native.Mathlib.Omega.{arith}
 use lib.ListN.{length, drop}
 use borrow.Author.Needs.{needs, scaled-fits}
-use Rattle.params.specs.Settings.{every, bounded}
+use Rattle.params.specs.Settings.{allOf, bounded}
 use Rattle.params.proofs.validate.all_bounded.Statement.{statement}
 use Rattle.params.proofs.validate.all_bounded.Tie as tie
 use Rattle.params.proofs.Every.{every-step, every-done}
 
 abbrev Inv-loop : tie.InvT-loop
-Inv-loop values all₀ i₀ all i = (i ≤ length values) × (all && every bounded (drop i values) ≡ every bounded values)
+Inv-loop values all₀ i₀ all i = (i ≤ length values) × (all && allOf bounded (drop i values) ≡ allOf bounded values)
 
 abbrev μ-loop : tie.MeasureT-loop
 μ-loop values all₀ i₀ all i = length values - i
@@ -40,7 +40,7 @@ loop-again c =
     let all = at-loop .loop .all in
     let xs = at-loop .before .before .args .values .now in
     let i = at-loop .loop .i in
-    (omega arith, ap (λ (b : Bool). (all && b) && every bounded (drop (i + 1) xs)) (c .bounded .ensures) ∙ every-step bounded all xs i (c .before .before .loop-test .taken) ∙ at-loop .loop .inv .1)
+    (omega arith, ap (λ (b : Bool). (all && b) && allOf bounded (drop (i + 1) xs)) (c .bounded .ensures) ∙ every-step bounded all xs i (c .before .before .loop-test .taken) ∙ at-loop .loop .inv .1)
 
 returns : tie.Need-returns Inv-loop μ-loop
 returns c =

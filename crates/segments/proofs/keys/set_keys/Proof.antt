@@ -12,7 +12,7 @@ use Rattle.rects.specs.Steps.{AllInside, Places}
 use Rattle.rects.specs.Around.{around}
 use Rattle.rects.proofs.Questions.{Inside}
 use Rattle.sets.specs.Listing.{membersOf}
-use Rattle.segments.specs.Rulings.{keyOf, keysOf}
+use Rattle.segments.specs.Rulings.{rulingKey, rulingKeys}
 use Rattle.segments.specs.Steps.{Parts, partsOf}
 use Rattle.segments.proofs.Runs.{value-written}
 use Rattle.lists.proofs.Keep.{map-map}
@@ -22,7 +22,7 @@ use Rattle.segments.proofs.keys.set_keys.Tie as tie
 
 -- the key of part k
 abbrev key : List ℕ → List ℕ → List ℕ → ℕ → ℕ → ℕ
-key pieces ms es n k = keyOf (around pieces (membersOf ms es n k))
+key pieces ms es n k = rulingKey (around pieces (membersOf ms es n k))
 
 record Keys (pieces ms es : List ℕ) (n : ℕ) (ks₀ ks : List ℕ) (k : ℕ) : Type 0 where
   up-to : k ≤ n
@@ -30,12 +30,12 @@ record Keys (pieces ms es : List ℕ) (n : ℕ) (ks₀ ks : List ℕ) (k : ℕ) 
   done : ks ≡ written (map (key pieces ms es n) (below k)) ks₀
 
 turn : {pieces ms es : List ℕ} {n : ℕ} {ks₀ ks : List ℕ} {k : ℕ} {set′ : List ℕ} {r : Rect} {v : ℕ} → Keys pieces ms es n ks₀ ks k → k < n → n ≤ length ks₀
-    → set′ ≡ membersOf ms es n k → r ≡ around pieces set′ → v ≡ keyOf r → Keys pieces ms es n ks₀ (set ks k v) (k + 1)
+    → set′ ≡ membersOf ms es n k → r ≡ around pieces set′ → v ≡ rulingKey r → Keys pieces ms es n ks₀ (set ks k v) (k + 1)
 turn {pieces} {ms} {es} {n} {ks₀} {ks} {k} {v = v} W l room p q e =
     record {
       up-to = omega arith;
       long = length-set ks k v ∙ W .long;
-      done = value-written (key pieces ms es n) ks₀ (W .done) (omega arith) (e ∙ ap keyOf (q ∙ ap (around pieces) p));
+      done = value-written (key pieces ms es n) ks₀ (W .done) (omega arith) (e ∙ ap rulingKey (q ∙ ap (around pieces) p));
     }
 
 -- a part, as it was read
@@ -96,7 +96,7 @@ returns c =
     let end : c .before .loop .k ≡ a .count = omega (arith, c .before .loop .inv .up-to, c .loop-test .left) in
     c .before .loop .inv .done ∙ ap (λ (j : ℕ). written (map (key (a .pieces .now) (a .members .now) (a .ends .now) (a .count)) (below j)) (a .keys .now)) end
     ∙ ap (λ (t : List ℕ). written t (a .keys .now))
-    (sym (map-map (λ s. keyOf (around (a .pieces .now) s)) (membersOf (a .members .now) (a .ends .now) (a .count)) (below (a .count))))
+    (sym (map-map (λ s. rulingKey (around (a .pieces .now) s)) (membersOf (a .members .now) (a .ends .now) (a .count)) (below (a .count))))
 
 pub set-keys-spec : {M : Type 1} → statement M
 set-keys-spec =

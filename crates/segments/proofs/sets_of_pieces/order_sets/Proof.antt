@@ -11,7 +11,7 @@ use Rattle.lists.proofs.Keep.{length-values}
 use Rattle.order.specs.Order.{sortedIndexes}
 use Rattle.rects.specs.Around.{around}
 use Rattle.sets.specs.Listing.{membersOf}
-use Rattle.segments.specs.Rulings.{keyOf, keysOf}
+use Rattle.segments.specs.Rulings.{rulingKey, rulingKeys}
 use Rattle.segments.specs.Steps.{partsOf}
 use Rattle.segments.proofs.sets_of_pieces.order_sets.Statement.{statement}
 use Rattle.segments.proofs.sets_of_pieces.order_sets.Tie as tie
@@ -19,11 +19,11 @@ use Rattle.segments.proofs.sets_of_pieces.order_sets.Tie as tie
 still : {n a b : ℕ} → n ≤ a → b ≡ a → n ≤ b
 still h e = omega arith
 
-ordered : (pieces ls le : List ℕ) (n : ℕ) (keys order : List ℕ) {keys′ order′ : List ℕ} → keys′ ≡ written (keysOf pieces (partsOf ls le n)) keys
-    → order′ ≡ written (sortedIndexes (take n keys′)) order → order′ ≡ written (sortedIndexes (keysOf pieces (partsOf ls le n))) order
+ordered : (pieces ls le : List ℕ) (n : ℕ) (keys order : List ℕ) {keys′ order′ : List ℕ} → keys′ ≡ written (rulingKeys pieces (partsOf ls le n)) keys
+    → order′ ≡ written (sortedIndexes (take n keys′)) order → order′ ≡ written (sortedIndexes (rulingKeys pieces (partsOf ls le n))) order
 ordered pieces ls le n keys order {keys′} p q =
-    let ks = keysOf pieces (partsOf ls le n) in
-    let long : length ks ≡ n = length-map (partsOf ls le n) (λ s. keyOf (around pieces s)) ∙ length-values (membersOf ls le n) n in
+    let ks = rulingKeys pieces (partsOf ls le n) in
+    let long : length ks ≡ n = length-map (partsOf ls le n) (λ s. rulingKey (around pieces s)) ∙ length-values (membersOf ls le n) n in
     q ∙ ap (λ (t : List ℕ). written (sortedIndexes t) order) (ap (take n) p ∙ take-at ks (drop (length ks) keys) n long)
 
 set-keys-requires : tie.Need-set-keys-requires

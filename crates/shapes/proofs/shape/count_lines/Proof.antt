@@ -6,7 +6,7 @@ use Prim.Native.Nat.{ℕ, _/_, _≤_}
 use native.Mathlib.Omega.{arith}
 use lib.ListN.{length, take, length-map}
 use lib.Seq.{length-take-le}
-use Rattle.lines.specs.Lines.{inOrder, lineCount}
+use Rattle.lines.specs.Lines.{sortedPositions, lineCount}
 use Rattle.lines.specs.Steps.{Room, Numbered}
 use Rattle.lines.proofs.Sorted.{lines-few}
 use Rattle.meeting.specs.declared.segment.Segment.{Segment}
@@ -30,7 +30,7 @@ module _ {h : Bool} {s : ℕ → Segment} {set keys : List ℕ} {n : ℕ} (C : C
       record {
         rulings = C .count;
         lines = lines;
-        few = omega (arith, C .short, lines-few cluster (inOrder (positions h s set)) (length (positions h s set)));
+        few = omega (arith, C .short, lines-few cluster (sortedPositions (positions h s set)) (length (positions h s set)));
       }
 
 collect-requires : tie.Need-collect-requires
