@@ -1,76 +1,54 @@
-//! The page text: everything of one page.
+//! A page: everything of it in one call.
 
 use lanegravel_binding::detect::{DetectAnswer, Page, detect};
 use lanegravel_binding::findings::FindingAtAnswer;
 use lanegravel_binding::settings::FusionParams;
 use lanegravel_binding::workspace::{Room, Workspace};
 
-use crate::answer::{
-    Answer, accepted, float, list, marked, named_sets, raster, ruling, sets, table,
-};
-use crate::boxes::MOST_BOXES;
-use crate::fields::{Fields, Kind};
-use crate::levelling::MOST_BYTES;
-use crate::rulings::MOST_RULINGS;
+use crate::answer::{Refused, accepted};
+use crate::fields::Fields;
+use crate::found::{Evidence, Facts, Finding, Found, Grid, Marked, Ruling, Sets, Table};
+use crate::levelling::{MOST_BYTES, Map};
+use crate::limits::{GLYPHS, PIECES};
 
-pub const PAGE: Kind = Kind {
-    name: "page",
-    keys: &[
-        "page",
-        "levelled",
-        "dpi",
-        "xheight",
-        "shear",
-        "shear_x",
-        "pieces",
-        "glyphs",
-        "llr_clip",
-        "group_cap",
-        "gray",
-        "ink",
-    ],
-    settings: true,
-    rooms: &[
-        "levelled",
-        "rulings",
-        "tables",
-        "boxes",
-        "findings",
-        "index_pieces",
-        "index_glyphs",
-    ],
-    answer: page,
-};
-
-fn page(fields: Fields) -> Answer {
+/// The library's answer to a page, with the closed sets or without.
+pub fn page(fields: Fields, sets: bool) -> Result<Found, Refused> {
     let mut lent = Workspace::with_room(&room(&fields));
-    let with_sets = fields.sets;
-    let answer = detect(&given(fields), &mut lent);
+    let (page, levelled_sides, dpi) = (fields.page, fields.levelled, fields.dpi);
+    let given = given(fields);
+    let answer = detect(&given, &mut lent);
     accepted(answer.number)?;
-    let mut lines = raster("levelled", &lent.levelled);
-    lines += &ruling_lines(&lent, &answer);
-    lines += &box_lines(&lent, &answer);
-    lines += &finding_lines(&lent, &answer);
-    if with_sets {
-        lines += &set_lines(&lent, &answer);
-    }
-    Ok(lines)
+    Ok(Found {
+        page,
+        levelled_sides,
+        dpi,
+        levelled: std::mem::take(&mut lent.levelled),
+        map: Map::new(page, levelled_sides, given.shear, given.shear_x),
+        gray: given.gray,
+        rulings: rulings(&lent, &answer),
+        printed: lent.printed(&answer).to_vec(),
+        faint: lent.faint(&answer).to_vec(),
+        tables: tables(&lent, &answer),
+        free: lent.free(&answer).to_vec(),
+        boxes: boxes(&lent, &answer),
+        grids: grids(&lent, &answer),
+        findings: lent.findings(&answer).map(finding).collect(),
+        sets: sets.then(|| closed_sets(&lent, &answer)),
+    })
 }
 
 /// What is lent, and no more than any accepted page can use.
 fn room(fields: &Fields) -> Room {
     let (pieces, glyphs) = (fields.pieces.len() / 4, fields.glyphs.len() / 4);
-    let places = fields.levelled.width.saturating_mul(fields.levelled.height);
     let lent = |name, asked, most| fields.room(name, asked).min(most);
-    let both = MOST_RULINGS + MOST_BOXES;
     Room {
-        levelled: lent("levelled", places, MOST_BYTES),
-        rulings: lent("rulings", pieces, MOST_RULINGS),
-        tables: lent("tables", pieces, MOST_RULINGS),
-        boxes: lent("boxes", glyphs, MOST_BOXES),
-        findings: lent("findings", pieces + glyphs, both),
-        index_pieces: lent("index_pieces", pieces, MOST_RULINGS),
-        index_glyphs: lent("index_glyphs", glyphs, MOST_BOXES),
+        levelled: lent("levelled", fields.levelled.places(), MOST_BYTES),
+        rulings: lent("rulings", pieces, PIECES),
+        tables: lent("tables", pieces, PIECES),
+        boxes: lent("boxes", glyphs, GLYPHS),
+        findings: lent("findings", pieces + glyphs, PIECES + GLYPHS),
+        index_pieces: lent("index_pieces", pieces, PIECES),
+        index_glyphs: lent("index_glyphs", glyphs, GLYPHS),
     }
 }
 
@@ -96,79 +74,90 @@ fn given(fields: Fields) -> Page {
     }
 }
 
-/// Rulings, how many are printed and faint, tables, and the free list.
-fn ruling_lines(lent: &Workspace, answer: &DetectAnswer) -> String {
-    let mut lines = format!("rulings {}\n", answer.rulings);
-    for r in lent.rulings(answer) {
-        lines += &ruling(r.rect, r.direction, r.contrast);
-    }
-    lines += &format!("printed {}\nfaint {}\n", answer.printed, answer.faint);
-    lines += &format!("tables {}\n", answer.tables);
-    for t in lent.tables(answer) {
-        lines += &table(t.rect, [t.rows, t.columns, t.rulings], t.share);
-    }
-    lines + &list("free", lent.free(answer))
+fn rulings(lent: &Workspace, answer: &DetectAnswer) -> Vec<Ruling> {
+    let ruling = |r: lanegravel_binding::views::Ruling| Ruling {
+        rect: r.rect,
+        direction: r.direction,
+        contrast: r.contrast,
+    };
+    lent.rulings(answer).map(ruling).collect()
 }
 
-/// Boxes and grids.
-fn box_lines(lent: &Workspace, answer: &DetectAnswer) -> String {
-    let mut lines = format!("boxes {}\n", answer.boxes);
-    for b in lent.boxes(answer) {
-        lines += &marked(b.rect, b.mark, b.coverage);
-    }
-    let (numbers, ends) = grids(lent, answer);
-    lines + &named_sets("grid", numbers, &lent.box_members, ends)
+fn tables(lent: &Workspace, answer: &DetectAnswer) -> Vec<Table> {
+    let table = |t: lanegravel_binding::views::Table| Table {
+        rect: t.rect,
+        rows: t.rows,
+        columns: t.columns,
+        rulings: t.rulings,
+        share: t.share,
+    };
+    lent.tables(answer).map(table).collect()
 }
 
-/// The numbers of the grids' sets, and the ends of all sets of boxes.
-fn grids<'a>(lent: &'a Workspace, answer: &DetectAnswer) -> (&'a [u32], &'a [u32]) {
-    let ends = &lent.box_ends[..answer.box_sets];
-    (&lent.grid_numbers[..answer.grids], ends)
+fn boxes(lent: &Workspace, answer: &DetectAnswer) -> Vec<Marked> {
+    let marked = |b: lanegravel_binding::views::Marked| Marked {
+        rect: b.rect,
+        mark: b.mark,
+        coverage: b.coverage,
+    };
+    lent.boxes(answer).map(marked).collect()
 }
 
-/// The counts, and the findings with their evidence.
-fn finding_lines(lent: &Workspace, a: &DetectAnswer) -> String {
-    let counts = [a.rulings, a.printed, a.faint, a.tables, a.boxes, a.grids];
-    let mut lines = format!("counts {}\n", counts.map(|n| n.to_string()).join(" "));
-    lines += &format!("findings {}\n", a.findings);
-    for finding in lent.findings(a) {
-        lines += &finding_line(&finding);
-        let (value, threshold) = (finding.first_value, finding.first_threshold);
-        lines += &evidence(value, threshold, finding.first_llr);
-        if finding.kind != 19 {
-            let (value, threshold) = (finding.second_value, finding.second_threshold);
-            lines += &evidence(value, threshold, finding.second_llr);
-        }
-    }
-    lines
+fn grids(lent: &Workspace, answer: &DetectAnswer) -> Vec<Grid> {
+    let grid = |set| Grid {
+        members: lent.box_set(answer, set).to_vec(),
+        reading: lent.reading_order(answer, set).to_vec(),
+    };
+    lent.grids(answer).map(grid).collect()
 }
 
 /// A finding with the facts that its kind has.
-fn finding_line(f: &FindingAtAnswer) -> String {
+fn finding(f: FindingAtAnswer) -> Finding {
     let facts = match f.kind {
-        18 => format!("{} {}", f.a, f.b),
-        19 => format!("{} {}", f.a, float(f.length)),
-        _ => format!("{} {} {}", f.a, f.b, f.c),
+        16 => Facts::Table {
+            rows: f.a,
+            columns: f.b,
+            rulings: f.c,
+        },
+        17 => Facts::FreeRules {
+            horizontal: f.a,
+            vertical: f.b,
+            longest: f.c,
+        },
+        18 => Facts::Grid {
+            boxes: f.a,
+            ticked: f.b,
+        },
+        _ => Facts::Fold {
+            direction: f.a,
+            length: f.length,
+        },
     };
-    let (kind, log_odds) = (f.kind, float(f.log_odds));
-    let (x0, y0, x1, y1) = (f.x0, f.y0, f.x1, f.y1);
-    format!("finding {kind} {x0} {y0} {x1} {y1} {log_odds} {facts}\n")
+    let second = Evidence {
+        value: f.second_value,
+        threshold: f.second_threshold,
+        llr: f.second_llr,
+    };
+    Finding {
+        rect: [f.x0, f.y0, f.x1, f.y1],
+        log_odds: f.log_odds,
+        first: Evidence {
+            value: f.first_value,
+            threshold: f.first_threshold,
+            llr: f.first_llr,
+        },
+        second: (f.kind != 19).then_some(second),
+        facts,
+    }
 }
 
-fn evidence(value: f64, threshold: f64, llr: f64) -> String {
-    let [value, threshold, llr] = [value, threshold, llr].map(float);
-    format!("evidence {value} {threshold} {llr}\n")
-}
-
-/// The closed sets, and the reading order of each grid.
-fn set_lines(lent: &Workspace, answer: &DetectAnswer) -> String {
-    let printed_ends = &lent.printed_ends[..answer.printed_sets];
-    let (numbers, box_ends) = grids(lent, answer);
-    sets(
-        "pieceset",
-        &lent.piece_members,
-        &lent.piece_ends[..answer.rulings],
-    ) + &sets("printedset", &lent.printed_members, printed_ends)
-        + &sets("boxset", &lent.box_members, box_ends)
-        + &named_sets("readingorder", numbers, &lent.reading, box_ends)
+fn closed_sets(lent: &Workspace, answer: &DetectAnswer) -> Sets {
+    let pieces = (0..answer.rulings).map(|set| lent.piece_set(answer, set).to_vec());
+    let printed = (0..answer.printed_sets).map(|set| lent.printed_set(answer, set).to_vec());
+    let boxes = (0..answer.box_sets).map(|set| lent.box_set(answer, set).to_vec());
+    Sets {
+        pieces: pieces.collect(),
+        printed: printed.collect(),
+        boxes: boxes.collect(),
+    }
 }
