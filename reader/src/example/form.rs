@@ -56,13 +56,13 @@ pub fn draw(sheet: &mut Sheet) {
     );
     sheet.rule(LEFT, RIGHT, 146, true);
     let mut folds = Vec::new();
-    let mut top = people(sheet, 176);
-    folds.push(top + 12);
-    top = yes_or_no(sheet, top + 40);
-    folds.push(top + 12);
-    top = satisfied(sheet, top + 40);
-    folds.push(top + 12);
-    top = amounts(sheet, top + 40);
+    let mut top = people(sheet, 178);
+    folds.push(top + 26);
+    top = yes_or_no(sheet, top + 52);
+    folds.push(top + 26);
+    top = satisfied(sheet, top + 52);
+    folds.push(top + 26);
+    top = amounts(sheet, top + 52);
     signature(sheet, (top + 110).max(1560));
     let fold = folds[sheet.random.below(3) as usize];
     sheet.fold(0, 1238, fold);
@@ -117,7 +117,7 @@ fn yes_or_no(sheet: &mut Sheet, y: u32) -> u32 {
     sheet.write(columns[1] - 2, y + 10, 2, "no");
     let mut questions = QUESTIONS;
     sheet.random.shuffle(&mut questions);
-    let rows = sheet.random.between(5, 7);
+    let rows = sheet.random.between(6, 8);
     asked(sheet, y + 48, &questions[..rows as usize], &columns)
 }
 
@@ -131,14 +131,14 @@ fn satisfied(sheet: &mut Sheet, y: u32) -> u32 {
     }
     let mut matters = MATTERS;
     sheet.random.shuffle(&mut matters);
-    let rows = sheet.random.between(4, 6);
+    let rows = sheet.random.between(5, 6);
     asked(sheet, y + 48, &matters[..rows as usize], &columns)
 }
 
 /// A row of boxes for each question, one of them marked now and then.
 fn asked(sheet: &mut Sheet, y: u32, questions: &[&str], columns: &[u32]) -> u32 {
     for (row, question) in (0..).zip(questions) {
-        let top = y + 38 * row;
+        let top = y + 40 * row;
         sheet.write(LEFT + 20, top + 4, 2, &format!("{}. {question}", row + 1));
         let chosen = sheet.random.below(columns.len() as u32 + 1) as usize;
         for (k, column) in columns.iter().enumerate() {
@@ -151,13 +151,13 @@ fn asked(sheet: &mut Sheet, y: u32, questions: &[&str], columns: &[u32]) -> u32 
             sheet.answer_box(x, top, 24, mark);
         }
     }
-    y + 38 * questions.len() as u32
+    y + 40 * questions.len() as u32
 }
 
 /// A small table of amounts, and beside it a box that stands alone.
 fn amounts(sheet: &mut Sheet, y: u32) -> u32 {
     heading(sheet, y, "D  What did you spend?");
-    let (top, rows) = (y + 40, sheet.random.between(3, 5));
+    let (top, rows) = (y + 40, sheet.random.between(4, 5));
     let lines = [LEFT, LEFT + 230, LEFT + 400, LEFT + 570];
     ruled(sheet, &lines, top, rows, 36);
     let mut items = ITEMS;

@@ -4,7 +4,7 @@
 use super::letters::{ADVANCE, columns};
 use super::random::Random;
 
-pub const PAPER: u8 = 228;
+pub const PAPER: u8 = 234;
 /// The height of small letters of size 2, which the form is set in.
 pub const XHEIGHT: u32 = 10;
 
@@ -224,7 +224,7 @@ impl Sheet {
         for dy in -reach..=reach {
             for dx in -reach..=reach {
                 let angle = (dy as f64).atan2(dx as f64);
-                let rim = radius * (1.0 + 0.3 * (lobes * angle + turn).sin());
+                let rim = radius * (1.0 + 0.2 * (lobes * angle + turn).sin());
                 let (px, py) = (x + dx, y + dy);
                 let inside = px >= 0 && py >= 0 && ((dx * dx + dy * dy) as f64) <= rim * rim;
                 if inside && (px as usize) < self.width && (py as usize) < self.height {

@@ -217,7 +217,8 @@ impl<'a> Drawing<'a> {
             .collect()
     }
 
-    /// The number of a finding and its size in a few words, above its left upper corner.
+    /// The number of a finding and its size in a few words, at its right end, where forms have the
+    /// least to read: above it, but below a grid, whose columns have their heads above.
     fn tag(&self, number: usize, finding: &Finding) -> String {
         let (colour, words) = match finding.facts {
             Facts::Table { rows, columns, .. } => (TABLE, format!("{rows} × {columns}")),
@@ -227,20 +228,26 @@ impl<'a> Drawing<'a> {
         };
         let words = format!("{number}  {words}");
         let u = self.unit;
-        let (width, height) = ((7.2 * words.chars().count() as f64 + 10.0) * u, 18.0 * u);
-        let x = f64::from(finding.rect[0])
-            .min(self.found.page.width as f64 - width)
-            .max(0.0);
-        let lift = if colour == GRID { 7.0 * u } else { 0.0 };
-        let y = (f64::from(finding.rect[1]) - height - lift).max(0.0);
+        let (width, height) = ((6.6 * words.chars().count() as f64 + 12.0) * u, 17.0 * u);
+        let [_, top, right, bottom] = finding.rect.map(f64::from);
+        let (page_width, page_height) =
+            (self.found.page.width as f64, self.found.page.height as f64);
+        let x = (right + 1.0).min(page_width) - width;
+        let y = if colour == GRID {
+            (bottom + 9.0 * u).min(page_height - height)
+        } else {
+            top - height - 1.5 * u
+        };
+        let (x, y) = (x.max(0.0), y.max(0.0));
         format!(
             "<g pointer-events=\"none\"><rect x=\"{x:.2}\" y=\"{y:.2}\" width=\"{width:.2}\" \
              height=\"{height:.2}\" rx=\"{:.2}\" fill=\"{colour}\"/><text x=\"{:.2}\" y=\"{:.2}\" \
-             font-size=\"{:.2}\" fill=\"#ffffff\" xml:space=\"preserve\">{words}</text></g>\n",
+             font-size=\"{:.2}\" fill=\"#ffffff\" text-anchor=\"middle\" \
+             xml:space=\"preserve\">{words}</text></g>\n",
             3.0 * u,
-            x + 6.0 * u,
-            y + 13.2 * u,
-            13.0 * u
+            x + width / 2.0,
+            y + 12.5 * u,
+            12.0 * u
         )
     }
 
