@@ -46,8 +46,8 @@ fn say(message: &str) {
 
 fn print(text: &str) -> Result<(), Failure> {
     let mut out = io::stdout().lock();
-    out.write_all(text.as_bytes())?;
-    Ok(out.flush()?)
+    let written = out.write_all(text.as_bytes());
+    written.and_then(|()| out.flush()).map_err(Failure::Output)
 }
 
 fn answer(asked: Answering) -> Result<(), Failure> {
@@ -70,7 +70,6 @@ fn answer(asked: Answering) -> Result<(), Failure> {
     outcome
 }
 
-/// Whatever its line numbers are, a failure names the file where there is one.
 fn answer_file<W: Write>(
     run: &mut Run<W>,
     file: &Path,
@@ -86,10 +85,7 @@ fn answer_file<W: Write>(
         let input = BufReader::with_capacity(BUFFER, opened);
         run.answer_all(input, context)
     });
-    answered.map_err(|failure| match failure {
-        closed if closed.is_closed_pipe() => closed,
-        other => other.of_file(file.to_string_lossy()),
-    })
+    answered.map_err(|failure| failure.of_file(file.to_string_lossy()))
 }
 
 fn standard_input() -> BufReader<io::StdinLock<'static>> {

@@ -58,8 +58,9 @@ impl<W: Write> Run<W> {
         while let Some(asked) = kind {
             let fields = fields::read(&mut lines, asked, context)?;
             let answer = self.answer(asked, fields)?;
-            self.output.write_all(answer.as_bytes())?;
-            self.output.flush()?;
+            let written = self.output.write_all(answer.as_bytes());
+            let written = written.and_then(|()| self.output.flush());
+            written.map_err(Failure::Output)?;
             self.progress.texts(self.texts);
             kind = kinds::next(&mut lines)?;
         }

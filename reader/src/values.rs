@@ -111,7 +111,8 @@ impl Hex {
         let room = self.most - self.bytes.len();
         let pairs = &pairs[..pairs.len().min(room)];
         if self.bytes.is_empty() && !pairs.is_empty() {
-            self.bytes.reserve_exact(self.count.min(self.most));
+            // Where there is no such room, the count may be wrong: the bytes will show.
+            let _ = self.bytes.try_reserve_exact(self.count.min(self.most));
         }
         self.bytes.extend(pairs.iter().map(byte));
     }
