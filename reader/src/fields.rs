@@ -96,7 +96,7 @@ fn sides<R: BufRead>(line: &mut Lines<R>) -> Result<Sides, Failure> {
 /// One rectangle or more. No question asks that of `map`, so here the form does.
 fn rectangles<R: BufRead>(line: &mut Lines<R>) -> Result<Vec<u32>, Failure> {
     let numbers = line.few_wholes(4 * limits::RECTS)?;
-    if numbers.is_empty() || numbers.len() % 4 != 0 {
+    if numbers.is_empty() || !numbers.len().is_multiple_of(4) {
         let count = numbers.len();
         return Err(line.malformed(format!("{count} numbers are not whole rectangles")));
     }

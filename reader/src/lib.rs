@@ -22,6 +22,6 @@ mod rulings;
 pub mod run;
 pub mod settings;
 pub mod text;
-mod values;
+pub mod values;
 
 pub use failure::Failure;

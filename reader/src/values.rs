@@ -99,7 +99,7 @@ impl Hex {
             (self.half, rest) = (None, after);
         }
         self.hold(rest);
-        if rest.len() % 2 == 1 {
+        if !rest.len().is_multiple_of(2) {
             self.half = rest.last().copied();
         }
         there.len()
@@ -119,7 +119,7 @@ impl Hex {
 
     /// The bytes, once all digits are there.
     pub fn whole(self) -> Result<Vec<u8>, String> {
-        if self.digits % 2 != 0 || self.digits / 2 != self.count {
+        if !self.digits.is_multiple_of(2) || self.digits / 2 != self.count {
             let (count, digits) = (self.count, self.digits);
             return Err(format!(
                 "{count} bytes announced, {digits} hex digits there"

@@ -3,7 +3,7 @@
 
 mod form;
 mod letters;
-mod random;
+pub mod random;
 mod sheet;
 
 use std::fmt::Write;
