@@ -87,7 +87,7 @@ fn desk(question: Question) -> (&'static str, &'static str) {
             "Set the sheet aside and go on. Tell the integrator; the sheet is not at fault.",
         ),
         Question::Evidence => (
-            "A score came out as no number. It has never been seen.",
+            "A score came out as no number, which no sheet should make it do.",
             "Key the sheet by hand, and send its page text to the integrator.",
         ),
     }
