@@ -3,6 +3,7 @@
 use std::fmt::Write;
 
 use crate::found::{Evidence, Facts, Finding, Found, Marked, Ruling, Table};
+use crate::rect::Rect;
 
 /// The number of the first question that was missed.
 #[derive(Debug, Clone, Copy, PartialEq)]
@@ -202,7 +203,7 @@ impl Text {
         self.end();
     }
 
-    fn record(&mut self, key: &str, rect: [u32; 4], facts: &[u32]) {
+    fn record(&mut self, key: &str, rect: Rect, facts: &[u32]) {
         self.begin(key);
         rect.iter().chain(facts).for_each(|n| self.whole_number(*n));
     }

@@ -3,11 +3,12 @@
 
 use crate::fields::Sides;
 use crate::levelling::Map;
+use crate::rect::{Rect, around};
 
 /// A ruling: its levelled rectangle, 0 for horizontal and 1 for vertical, and its contrast.
 #[derive(Debug, Clone, Copy)]
 pub struct Ruling {
-    pub rect: [u32; 4],
+    pub rect: Rect,
     pub direction: u32,
     pub contrast: f64,
 }
@@ -15,7 +16,7 @@ pub struct Ruling {
 /// A table: its levelled rectangle and its facts.
 #[derive(Debug, Clone, Copy)]
 pub struct Table {
-    pub rect: [u32; 4],
+    pub rect: Rect,
     pub rows: u32,
     pub columns: u32,
     pub rulings: u32,
@@ -26,7 +27,7 @@ pub struct Table {
 /// A box: its levelled frame, 1 where it is ticked, and its edge coverage.
 #[derive(Debug, Clone, Copy)]
 pub struct Marked {
-    pub rect: [u32; 4],
+    pub rect: Rect,
     pub mark: u32,
     pub coverage: f64,
 }
@@ -83,7 +84,7 @@ impl Facts {
 /// A finding: its rectangle on the page, its log odds, its facts and its evidence.
 #[derive(Debug, Clone, Copy)]
 pub struct Finding {
-    pub rect: [u32; 4],
+    pub rect: Rect,
     pub log_odds: f64,
     pub facts: Facts,
     pub first: Evidence,
@@ -161,14 +162,5 @@ impl Found {
     }
 }
 
-const EMPTY: [u32; 4] = [u32::MAX, u32::MAX, 0, 0];
-
-/// The smallest rectangle around two.
-fn around(a: [u32; 4], b: [u32; 4]) -> [u32; 4] {
-    [
-        a[0].min(b[0]),
-        a[1].min(b[1]),
-        a[2].max(b[2]),
-        a[3].max(b[3]),
-    ]
-}
+/// What lies inside every rectangle.
+const EMPTY: Rect = [u32::MAX, u32::MAX, 0, 0];

@@ -5,6 +5,7 @@ use lanegravel_binding::layout::{self, Page};
 use crate::answer::{Refused, Text, accepted};
 use crate::fields::{Fields, Sides};
 use crate::limits::PLACES;
+use crate::rect::Rect;
 
 /// The most bytes that are lent as a levelled raster: one more than any accepted page has. Lending
 /// more would change no answer.
@@ -64,7 +65,7 @@ impl Map {
     }
 
     /// The rectangle on the page of a levelled rectangle.
-    pub fn on_page(&self, rect: [u32; 4]) -> [u32; 4] {
+    pub fn on_page(&self, rect: Rect) -> Rect {
         let area = layout::rect_to_page(&self.0, rect);
         [area.x0, area.y0, area.x1, area.y1]
     }

@@ -17,6 +17,7 @@ pub mod options;
 pub mod page;
 pub mod picture;
 mod progress;
+mod rect;
 pub mod report;
 mod rulings;
 pub mod run;

@@ -2,7 +2,7 @@
 
 use std::env;
 use std::fs::File;
-use std::io::{self, BufReader, Write};
+use std::io::{self, BufReader, IsTerminal, Write};
 use std::path::{Path, PathBuf};
 use std::process::ExitCode;
 
@@ -61,6 +61,9 @@ fn answer(asked: Answering) -> Result<(), Failure> {
     };
     let mut run = Run::new(io::stdout().lock(), asked.wanted);
     let outcome = if asked.files.is_empty() {
+        if io::stdin().is_terminal() {
+            say("reading texts from the terminal; --help says what else there is");
+        }
         run.answer_all(standard_input(), &context)
     } else {
         let mut files = asked.files.iter();

@@ -3,6 +3,7 @@
 use crate::answer::Refused;
 use crate::card::{self, capitalised};
 use crate::found::{Facts, Finding, Found, Grid, Marked};
+use crate::rect::Rect;
 
 /// The report of a page, which is the text of this number.
 pub fn page(text: usize, outcome: Result<&Found, &Refused>) -> String {
@@ -92,7 +93,8 @@ pub fn headline(finding: &Finding) -> String {
     }
 }
 
-fn way(direction: u32) -> &'static str {
+/// The name of a direction.
+pub fn way(direction: u32) -> &'static str {
     match direction {
         0 => "horizontal",
         _ => "vertical",
@@ -110,7 +112,7 @@ fn of(count: u32, noun: &str) -> String {
 }
 
 /// Where it lies on the page.
-pub fn place([x0, y0, x1, y1]: [u32; 4]) -> String {
+pub fn place([x0, y0, x1, y1]: Rect) -> String {
     let (width, height) = (x1 - x0 + 1, y1 - y0 + 1);
     format!("on the page from ({x0}, {y0}) to ({x1}, {y1}): {width} by {height} pixels")
 }

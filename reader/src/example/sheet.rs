@@ -3,6 +3,7 @@
 
 use super::letters::{ADVANCE, columns};
 use super::random::Random;
+use crate::rect::{Rect, around};
 
 pub const PAPER: u8 = 234;
 /// The height of small letters of size 2, which the form is set in.
@@ -46,7 +47,7 @@ impl Sheet {
         }
     }
 
-    fn fill(&mut self, [x0, y0, x1, y1]: [u32; 4], grey: u8) {
+    fn fill(&mut self, [x0, y0, x1, y1]: Rect, grey: u8) {
         for y in y0..=y1 {
             for x in x0..=x1 {
                 self.dot(x.into(), y.into(), grey);
@@ -67,7 +68,7 @@ impl Sheet {
         let grey = 45 + self.random.below(30) as u8;
         let dots = (0..5).flat_map(|x| (0..8).map(move |y| (x, y)));
         let set = dots.filter(|(x, y)| columns[*x as usize] >> y & 1 == 1);
-        let mut glyph: Option<[u32; 4]> = None;
+        let mut glyph: Option<Rect> = None;
         for (x, y) in set {
             let (x0, y0) = (left + x * dot, top + y * dot);
             let rect = [x0, y0, x0 + dot - 1, y0 + dot - 1];
@@ -146,7 +147,7 @@ impl Sheet {
     }
 
     /// Two strokes that stay inside the frame.
-    fn cross(&mut self, [x0, y0, x1, y1]: [u32; 4]) -> [u32; 4] {
+    fn cross(&mut self, [x0, y0, x1, y1]: Rect) -> Rect {
         let [left, top, right, bottom] = [x0 + 4, y0 + 4, x1 - 4, y1 - 4].map(f64::from);
         let first = self.stroke(&[(left, top), (right, bottom)]);
         let second = self.stroke(&[(right, top), (left, bottom)]);
@@ -154,7 +155,7 @@ impl Sheet {
     }
 
     /// A tick whose long arm may leave the frame at its upper right.
-    fn tick(&mut self, [x0, y0, x1, y1]: [u32; 4]) -> [u32; 4] {
+    fn tick(&mut self, [x0, y0, x1, y1]: Rect) -> Rect {
         let side = f64::from(x1 - x0);
         let out = f64::from(self.random.below(5) * self.scale);
         let (x, y) = (f64::from(x0), f64::from(y0));
@@ -167,10 +168,10 @@ impl Sheet {
     }
 
     /// A pen's way through these places, in pixels, and the rectangle around it.
-    fn stroke(&mut self, places: &[(f64, f64)]) -> [u32; 4] {
+    fn stroke(&mut self, places: &[(f64, f64)]) -> Rect {
         let wide = i64::from(2 * self.scale);
         let grey = 40 + self.random.below(40) as u8;
-        let mut drawn: Option<[u32; 4]> = None;
+        let mut drawn: Option<Rect> = None;
         for ends in places.windows(2) {
             let ((x0, y0), (x1, y1)) = (ends[0], ends[1]);
             let steps = (x1 - x0).abs().max((y1 - y0).abs()).ceil().max(1.0);
@@ -220,7 +221,7 @@ impl Sheet {
             f64::from(self.random.between(2, 5)),
         );
         let reach = (1.4 * radius) as i64 + 1;
-        let mut glyph: Option<[u32; 4]> = None;
+        let mut glyph: Option<Rect> = None;
         for dy in -reach..=reach {
             for dx in -reach..=reach {
                 let angle = (dy as f64).atan2(dx as f64);
@@ -251,7 +252,7 @@ impl Sheet {
     }
 
     /// The part of a rectangle that is on the sheet.
-    fn inside(&self, [x0, y0, x1, y1]: [u32; 4]) -> [u32; 4] {
+    fn inside(&self, [x0, y0, x1, y1]: Rect) -> Rect {
         let (right, bottom) = (self.width as u32 - 1, self.height as u32 - 1);
         [x0.min(right), y0.min(bottom), x1.min(right), y1.min(bottom)]
     }
@@ -263,14 +264,4 @@ pub enum Mark {
     None,
     Cross,
     Tick,
-}
-
-/// The smallest rectangle around two.
-fn around(a: [u32; 4], b: [u32; 4]) -> [u32; 4] {
-    [
-        a[0].min(b[0]),
-        a[1].min(b[1]),
-        a[2].max(b[2]),
-        a[3].max(b[3]),
-    ]
 }

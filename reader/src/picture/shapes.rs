@@ -1,8 +1,11 @@
 //! The shapes over the page. A levelled rectangle is drawn by its four corners, each led to the page
 //! by `rect_to_page`, so that it lies as the sheet lay in the scanner.
 
+use std::collections::BTreeMap;
+
 use crate::found::{Facts, Finding, Found, Grid, Marked, Ruling};
-use crate::report::{headline, place, scores};
+use crate::rect::Rect;
+use crate::report::{headline, place, scores, way};
 
 pub const TABLE: &str = "#0072b2";
 pub const FREE: &str = "#d55e00";
@@ -11,6 +14,10 @@ pub const FOLD: &str = "#a0439c";
 
 pub struct Drawing<'a> {
     found: &'a Found,
+    /// The levelled rectangle of each table, and of each faint ruling, by its rectangle on the page,
+    /// which its finding has.
+    tables: BTreeMap<Rect, Rect>,
+    faint: BTreeMap<Rect, Rect>,
     /// A thousandth of the longer side: what line widths and letters are measured in.
     pub unit: f64,
 }
@@ -18,8 +25,12 @@ pub struct Drawing<'a> {
 impl<'a> Drawing<'a> {
     pub fn new(found: &'a Found) -> Self {
         let longer = found.page.width.max(found.page.height);
+        let by_page = |rect: Rect| (found.map.on_page(rect), rect);
+        let faint = found.faint.iter().map(|k| found.rulings[*k as usize].rect);
         Drawing {
             found,
+            tables: found.tables.iter().map(|t| by_page(t.rect)).collect(),
+            faint: faint.map(by_page).collect(),
             unit: longer as f64 / 1000.0,
         }
     }
@@ -47,7 +58,7 @@ impl<'a> Drawing<'a> {
     }
 
     /// The corners on the page of a levelled rectangle, clockwise from its upper left.
-    fn corners(&self, [x0, y0, x1, y1]: [u32; 4]) -> [[f64; 2]; 4] {
+    fn corners(&self, [x0, y0, x1, y1]: Rect) -> [[f64; 2]; 4] {
         let corner = |x: u32, y: u32, right: f64, below: f64| {
             let [x, y, ..] = self.found.map.on_page([x, y, x, y]);
             [f64::from(x) + right, f64::from(y) + below]
@@ -61,7 +72,7 @@ impl<'a> Drawing<'a> {
     }
 
     /// A polygon with these attributes and facts to read when the pointer rests on it.
-    fn polygon(&self, rect: [u32; 4], attributes: &str, title: &str) -> String {
+    fn polygon(&self, rect: Rect, attributes: &str, title: &str) -> String {
         let points = self
             .corners(rect)
             .map(|[x, y]| format!("{x},{y}"))
@@ -69,30 +80,22 @@ impl<'a> Drawing<'a> {
         format!("<polygon points=\"{points}\" {attributes}><title>{title}</title></polygon>\n")
     }
 
-    /// The table on the page, as the rectangle of its finding, and its rulings.
+    /// The frame of a table, and its rulings.
     fn table(&self, finding: &Finding) -> String {
-        let found = self.found;
-        let made = found.tables.iter().find(|table| {
-            let Facts::Table { rows, columns, .. } = finding.facts else {
-                return false;
-            };
-            (table.rows, table.columns) == (rows, columns)
-                && found.map.on_page(table.rect) == finding.rect
-        });
-        let Some(table) = made else {
+        let Some(rect) = self.tables.get(&finding.rect) else {
             return String::new();
         };
         let frame = self.stroke(TABLE, 2.2) + &format!(" fill=\"{TABLE}\" fill-opacity=\"0.07\"");
-        let mut shapes = self.polygon(table.rect, &frame, &facts(finding));
+        let mut shapes = self.polygon(*rect, &frame, &facts(finding));
         let line = format!("fill=\"{TABLE}\" fill-opacity=\"0.55\"");
-        for ruling in self.rulings_inside(table.rect) {
+        for ruling in self.rulings_inside(*rect) {
             shapes += &self.polygon(ruling.rect, &line, &ruling_facts(ruling));
         }
         shapes
     }
 
     /// The printed rulings inside a table's rectangle that are not free.
-    fn rulings_inside(&self, [x0, y0, x1, y1]: [u32; 4]) -> impl Iterator<Item = &Ruling> {
+    fn rulings_inside(&self, [x0, y0, x1, y1]: Rect) -> impl Iterator<Item = &Ruling> {
         let found = self.found;
         let mut free = vec![false; found.printed.len()];
         found.free.iter().for_each(|k| free[*k as usize] = true);
@@ -113,20 +116,16 @@ impl<'a> Drawing<'a> {
             .collect()
     }
 
-    /// The faint ruling on the page that the finding was made from.
+    /// The faint ruling that the finding was made from.
     fn fold(&self, finding: &Finding) -> String {
-        let found = self.found;
-        let faint = found.faint.iter().map(|k| &found.rulings[*k as usize]);
-        let mut made = faint.filter(|ruling| found.map.on_page(ruling.rect) == finding.rect);
+        let Some(rect) = self.faint.get(&finding.rect) else {
+            return String::new();
+        };
+        let (dash, gap) = (14.0 * self.unit, 6.0 * self.unit);
         let line = self.stroke(FOLD, 3.0)
-            + &format!(
-                " stroke-dasharray=\"{:.2} {:.2}\" fill=\"{FOLD}\" fill-opacity=\"0.3\"",
-                14.0 * self.unit,
-                6.0 * self.unit
-            );
-        let fold = made.next();
-        fold.map(|ruling| self.polygon(ruling.rect, &line, &facts(finding)))
-            .unwrap_or_default()
+            + &format!(" stroke-dasharray=\"{dash:.2} {gap:.2}\"")
+            + &format!(" fill=\"{FOLD}\" fill-opacity=\"0.3\"");
+        self.polygon(*rect, &line, &facts(finding))
     }
 
     /// The outline of a grid, its boxes, and the way through them in reading order.
@@ -168,7 +167,7 @@ impl<'a> Drawing<'a> {
         )
     }
 
-    fn centre(&self, rect: [u32; 4]) -> [f64; 2] {
+    fn centre(&self, rect: Rect) -> [f64; 2] {
         let corners = self.corners(rect);
         [0, 1].map(|c| corners.iter().map(|corner| corner[c]).sum::<f64>() / 4.0)
     }
@@ -265,10 +264,6 @@ fn facts(finding: &Finding) -> String {
 }
 
 fn ruling_facts(ruling: &Ruling) -> String {
-    let way = if ruling.direction == 0 {
-        "horizontal"
-    } else {
-        "vertical"
-    };
+    let way = way(ruling.direction);
     format!("{way} ruling, contrast {:.1}", ruling.contrast)
 }
