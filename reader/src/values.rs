@@ -47,14 +47,17 @@ pub fn float(word: &[u8]) -> Result<f64, String> {
     })
 }
 
-/// `-1.5e-3` and the like, rounded to the nearest float. The names of infinities and NaNs and a plus
-/// in front, which std takes, are refused.
+/// `-1.5e-3` and the like, rounded to the nearest float. The names of infinities and NaNs, a plus in
+/// front and a point without a digit beside it, which std takes, are refused.
 fn decimal(word: &[u8]) -> Option<f64> {
     let digits = word.strip_prefix(b"-").unwrap_or(word);
-    let begins = digits.first()?.is_ascii_digit();
-    let ends = digits.last()?.is_ascii_digit();
-    let text = str::from_utf8(word).ok()?;
-    text.parse().ok().filter(|_| begins && ends)
+    let is_digit = |byte: Option<&u8>| byte.is_some_and(u8::is_ascii_digit);
+    let point = digits.iter().position(|byte| *byte == b'.');
+    let of_form = is_digit(digits.first())
+        && is_digit(digits.last())
+        && point.is_none_or(|point| is_digit(digits.get(point + 1)));
+    let text = str::from_utf8(word).ok().filter(|_| of_form)?;
+    text.parse().ok()
 }
 
 fn is_hex(byte: u8) -> bool {
@@ -201,6 +204,7 @@ mod tests {
             "7FF8000000000000",
             "--1",
             "1e5.0",
+            "1.e5",
         ] {
             assert_eq!(bits(word), None, "{word}");
         }
