@@ -133,7 +133,7 @@ fn adler32(bytes: &[u8]) -> u32 {
 
 #[cfg(test)]
 mod tests {
-    use super::{LONGEST, adler32, lengths};
+    use super::{END, LONGEST, adler32, lengths, zlib};
 
     #[test]
     fn sums_that_are_published() {
@@ -141,17 +141,87 @@ mod tests {
         assert_eq!(adler32(b"Wikipedia"), 0x11e6_0398);
     }
 
-    #[test]
-    fn codes_fill_their_tree_and_are_not_too_long() {
-        let mut counts = [0; 257];
+    /// Counts that grow like Fibonacci's numbers, whose tree is the deepest that there is.
+    fn steep() -> [u64; END + 1] {
+        let mut counts = [0; END + 1];
         let (mut a, mut b) = (1, 1);
-        for count in &mut counts[200..257] {
+        for count in &mut counts[200..] {
             *count = a;
             (a, b) = (b, a + b);
         }
-        let lengths = lengths(counts);
+        counts
+    }
+
+    #[test]
+    fn codes_fill_their_tree_and_are_not_too_long() {
+        let lengths = lengths(steep());
         let used = lengths.iter().filter(|length| **length > 0);
         let filled: u32 = used.map(|length| 1 << (LONGEST - length)).sum();
         assert_eq!(filled, 1 << LONGEST);
+    }
+
+    /// The next bits of a stream, as a number with the lowest first.
+    fn take(stream: &[u8], place: &mut usize, count: u32) -> u32 {
+        let bit = |k: u32| {
+            let at = *place + k as usize;
+            u32::from(stream[at / 8] >> (at % 8) & 1) << k
+        };
+        let bits = (0..count).map(bit).sum();
+        *place += count as usize;
+        bits
+    }
+
+    /// What RFC 1951 makes of a stream of one block that has codes of four bits for its lengths.
+    fn unpacked(stream: &[u8]) -> Vec<u8> {
+        let mut place = 16;
+        assert_eq!(take(stream, &mut place, 17), 1 | 2 << 1 | 15 << 13);
+        for k in 0..19 {
+            assert_eq!(take(stream, &mut place, 3), if k < 3 { 0 } else { 4 });
+        }
+        let mut length = || take(stream, &mut place, 4).reverse_bits() >> 28;
+        let lengths: Vec<u32> = (0..=END).map(|_| length()).collect();
+        assert_eq!(length(), 1);
+        let (mut code, mut coded) = (0, Vec::new());
+        for length in 1..=LONGEST {
+            code <<= 1;
+            for symbol in (0..=END).filter(|symbol| lengths[*symbol] == length) {
+                coded.push((length, code, symbol));
+                code += 1;
+            }
+        }
+        let mut bytes = Vec::new();
+        loop {
+            let (mut code, mut length) = (0, 0);
+            let symbol = loop {
+                code = code << 1 | take(stream, &mut place, 1);
+                length += 1;
+                let known = coded.iter().find(|(l, c, _)| (*l, *c) == (length, code));
+                if let Some((_, _, symbol)) = known {
+                    break *symbol;
+                }
+            };
+            match u8::try_from(symbol) {
+                Ok(byte) => bytes.push(byte),
+                Err(_) => return bytes,
+            }
+        }
+    }
+
+    #[test]
+    fn streams_unpack_to_what_was_packed() {
+        let skewed = (0..20u8).flat_map(|byte| vec![byte; 1 << (byte / 2)]);
+        for bytes in [
+            vec![],
+            vec![7],
+            vec![0; 300],
+            (0..=255).collect(),
+            b"a rule, a box, a rule".to_vec(),
+            skewed.collect(),
+        ] {
+            let stream = zlib(&bytes);
+            assert_eq!(u16::from_be_bytes([stream[0], stream[1]]) % 31, 0);
+            assert_eq!(stream[stream.len() - 4..], adler32(&bytes).to_be_bytes());
+            assert_eq!(unpacked(&stream), bytes);
+        }
     }
 }
