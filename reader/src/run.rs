@@ -4,7 +4,7 @@ use std::fs::File;
 use std::io::{BufRead, BufWriter, Write};
 use std::path::{Path, PathBuf};
 
-use crate::answer::{Floats, Text};
+use crate::answer::{Floats, Refused, Text};
 use crate::failure::Failure;
 use crate::fields::{self, Fields};
 use crate::files::Context;
@@ -84,7 +84,7 @@ impl<W: Write> Run<W> {
             Asked::Call(call) => {
                 let mut text = Text::new(self.wanted.floats);
                 let outcome = call(fields, &mut text);
-                Ok(text.whole(outcome))
+                Ok(self.exact(&text, outcome))
             }
         }
     }
@@ -100,7 +100,15 @@ impl<W: Write> Run<W> {
         }
         let mut text = Text::new(self.wanted.floats);
         let outcome = outcome.map(|found| text.found(&found));
-        Ok(text.whole(outcome))
+        Ok(self.exact(&text, outcome))
+    }
+
+    /// The answer text; whoever watches is told what a refusal's number means.
+    fn exact(&mut self, text: &Text, outcome: Result<(), Refused>) -> String {
+        if let Err(Refused(number)) = outcome {
+            self.progress.refused(self.texts, number);
+        }
+        text.whole(outcome)
     }
 
     /// Writes the page's picture and its levelled raster, where they are wanted.
