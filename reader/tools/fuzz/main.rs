@@ -62,22 +62,13 @@ fn main() -> ExitCode {
 
 fn corpus(files: &[String]) -> Corpus {
     let read = |file: &String| fs::read(file).unwrap_or_else(|error| panic!("{file}: {error}"));
-    let is_text = |file: &&String| file.ends_with(".txt");
-    let folder = files.iter().find(|file| file.ends_with(".settings"));
-    let settings = folder.map(Path::new).expect("a settings file");
+    let named = |ending: &'static str| files.iter().filter(move |file| file.ends_with(ending));
+    let settings = named(".settings").next().map(Path::new);
+    let settings = settings.expect("a settings file");
     let file = SettingsFile::open(settings, "settings");
     Corpus {
-        texts: files
-            .iter()
-            .filter(is_text)
-            .map(read)
-            .map(without_marks)
-            .collect(),
-        pictures: files
-            .iter()
-            .filter(|file| file.contains(".p"))
-            .map(read)
-            .collect(),
+        texts: named(".txt").map(read).map(without_marks).collect(),
+        pictures: named(".pgm").chain(named(".pbm")).map(read).collect(),
         context: Context {
             folder: settings.parent().map(PathBuf::from).unwrap_or_default(),
             settings: file.ok(),
