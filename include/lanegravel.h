@@ -10,7 +10,10 @@
  *   floats   The float environment is the one that a C program starts in: round to nearest, subnormal
  *            numbers kept, no traps. fesetround changes it; so does an object that was linked with
  *            GCC's -ffast-math, for the whole program, and answers then differ.
- *   stack    There is room on the stack. */
+ *   stack    There is room on the stack.
+ *
+ * A rectangle is four numbers, x0, y0, x1, y1, both ends inside it, and the count of a list of rectangles
+ * counts its NUMBERS: 4 is one rectangle and not four. LANEGRAVEL_NUMBERS gives that count. */
 #ifndef LANEGRAVEL_H
 #define LANEGRAVEL_H
 
@@ -20,6 +23,49 @@
 #ifdef __cplusplus
 extern "C" {
 #endif
+
+#define LANEGRAVEL_VERSION_MAJOR 0
+#define LANEGRAVEL_VERSION_MINOR 1
+#define LANEGRAVEL_VERSION_PATCH 0
+#define LANEGRAVEL_VERSION "0.1.0"
+
+/* The most rule pieces (or rulings) and the most glyph boxes (or boxes) of a call, and the longest side of
+ * a page or picture. */
+#define LANEGRAVEL_MOST_PIECES 4096
+#define LANEGRAVEL_MOST_GLYPHS 16384
+#define LANEGRAVEL_LONGEST_SIDE 8192
+
+/* The count of a list of so many rectangles. */
+#define LANEGRAVEL_NUMBERS(rectangles) (4 * (rectangles))
+
+/* What a call answers as its number: the first question that is missed, or 0. A call puts those questions
+ * that are about what it is given, and says with it what they ask in detail. */
+enum lanegravel_question {
+    LANEGRAVEL_ACCEPTED = 0,              /* no question is missed */
+    LANEGRAVEL_QUESTION_SIDES = 1,        /* sides 1 to 8,192, the page no larger than the picture */
+    LANEGRAVEL_QUESTION_SCALE = 2,        /* dpi not 0, x-height above 0 and at most 4,096 */
+    LANEGRAVEL_QUESTION_LENGTHS = 3,      /* rasters and shear tables as long as the sides ask */
+    LANEGRAVEL_QUESTION_SHEARS = 4,       /* every shear keeps the page inside the picture */
+    LANEGRAVEL_QUESTION_COUNTS = 5,       /* at most 4,096 pieces, 16,384 glyph boxes, all whole */
+    LANEGRAVEL_QUESTION_RECTANGLES = 6,   /* every rectangle ordered and inside the picture */
+    LANEGRAVEL_QUESTION_FINITE = 7,       /* every double of the settings finite, size to 1,000,000 */
+    LANEGRAVEL_QUESTION_NOT_NEGATIVE = 8, /* the eight lengths among the settings not below 0 */
+    LANEGRAVEL_QUESTION_BOX_SIZES = 9,    /* box_max_xh at least box_min_xh */
+    LANEGRAVEL_QUESTION_FRACTIONS = 10,   /* the five parts 0 to 1, box_tolerance_px at most 3 */
+    LANEGRAVEL_QUESTION_MINIMUMS = 11,    /* both table minima at least 1, grid_min_boxes 2 */
+    LANEGRAVEL_QUESTION_CAPS = 12,        /* llr_clip and group_cap finite, 0 to 1,000,000 */
+    LANEGRAVEL_QUESTION_FREE_RULES = 13,  /* min_free_rules at least 1 */
+    LANEGRAVEL_QUESTION_ROOM = 14,        /* every lent list has the room that is needed */
+    LANEGRAVEL_QUESTION_EVIDENCE = 15     /* every evidence number finite; lanegravel_detect alone */
+};
+
+/* The kinds of findings. */
+enum lanegravel_kind {
+    LANEGRAVEL_TABLE = 16,
+    LANEGRAVEL_FREE_RULES = 17,
+    LANEGRAVEL_GRID = 18,
+    LANEGRAVEL_FOLD = 19
+};
 
 /* The sum of the values: up to 8 are added from 0.0 left to right; a longer list is cut at half its
  * length, rounded down, and the sums of its two halves are added. An empty list gives 0.0. */
@@ -360,6 +406,28 @@ struct lanegravel_detect_answer {
     size_t box_sets;
 };
 
+/* What a page is given by, for lanegravel_detect_into. Each list has its count behind it. */
+struct lanegravel_page {
+    size_t page_width, page_height; /* of the page as it was scanned */
+    size_t width, height;           /* of the levelled picture */
+    uint16_t dpi;
+    double xheight;
+    struct lanegravel_rulings_params params;
+    struct lanegravel_fusion_params fusion;
+    const uint8_t *gray; /* the page, row by row: page_width * page_height bytes */
+    size_t gray_count;
+    const uint8_t *ink; /* levelled, row by row: width * height bytes, not 0 is ink */
+    size_t ink_count;
+    const int32_t *shear; /* how far each page column goes down */
+    size_t shear_count;
+    const int32_t *shear_x; /* how far each levelled row goes to the right */
+    size_t shear_x_count;
+    const uint32_t *pieces; /* levelled rectangles */
+    size_t pieces_count;    /* of NUMBERS, four a piece */
+    const uint32_t *glyphs; /* levelled rectangles */
+    size_t glyphs_count;    /* of NUMBERS, four a glyph box */
+};
+
 /* A lent list: where its entries are, and how many. Where the count is 0, entries may be null. */
 struct lanegravel_u8_list {
     uint8_t *entries;
@@ -442,6 +510,16 @@ struct lanegravel_lists {
     struct lanegravel_u64_list box_keys;    /* m */
 };
 
+/* The memory of a page's lists in one allocation: so many bytes, for so many pieces and glyph boxes
+ * (rectangles, not numbers) and a levelled picture of these sides. What a page can't have and be accepted
+ * is counted as the most that it can have: such a page misses question 1 or 5 before 14 is put. */
+static inline size_t lanegravel_lists_size(size_t pieces, size_t glyphs, size_t width, size_t height);
+
+/* The lists laid over such memory, one behind the other, the widest entries first. The memory is aligned
+ * for double and uint64_t, as malloc's is, and not null; it need not be written before. */
+static inline struct lanegravel_lists lanegravel_lists_over(void *memory, size_t pieces, size_t glyphs,
+                                                            size_t width, size_t height);
+
 /* Reads a page: levels it, joins its pieces to rulings, parts these into printed and faint, finds the
  * tables among the printed, the boxes among the glyph boxes and the grids among the boxes, and makes
  * the findings. Each step is that of the call about it alone, on the same input: lanegravel_level_gray,
@@ -491,14 +569,9 @@ struct lanegravel_detect_answer lanegravel_detect(
     struct lanegravel_u32_list *listed, struct lanegravel_u32_list *listed_ends,
     struct lanegravel_u64_list *keys, struct lanegravel_u64_list *box_keys);
 
-/* The same, over lists by name. The struct itself is not changed. */
+/* The same, over a page and lists by name. The structs themselves are not changed. */
 static inline struct lanegravel_detect_answer lanegravel_detect_into(
-    size_t page_width, size_t page_height, size_t width, size_t height, uint16_t dpi, double xheight,
-    struct lanegravel_rulings_params p, struct lanegravel_fusion_params f,
-    const uint8_t *gray, size_t gray_count, const uint8_t *ink, size_t ink_count,
-    const int32_t *shear, size_t shear_count, const int32_t *shear_x, size_t shear_x_count,
-    const uint32_t *pieces, size_t pieces_count, const uint32_t *glyphs, size_t glyphs_count,
-    const struct lanegravel_lists *lists) {
+    const struct lanegravel_page *page, const struct lanegravel_lists *lists) {
     struct lanegravel_lists l = *lists;
     struct lanegravel_u32_list rects[2], tags[2], chosen[2], rest[2], members[3], ends[3], numbers[2];
     struct lanegravel_u32_list facts[4], parents[2], order[2];
@@ -538,12 +611,119 @@ static inline struct lanegravel_detect_answer lanegravel_detect_into(
     scores[5] = l.second_thresholds;
     scores[6] = l.second_llrs;
     scores[7] = l.lengths;
-    return lanegravel_detect(page_width, page_height, width, height, dpi, xheight, p, f,
-                             gray, gray_count, ink, ink_count, shear, shear_count,
-                             shear_x, shear_x_count, pieces, pieces_count, glyphs, glyphs_count,
-                             &l.levelled, rects, tags, values, chosen, rest, members, ends, numbers,
-                             &l.bounds, &l.rows, &l.columns, &l.rulings, &l.page, facts, scores,
-                             parents, order, &l.listed, &l.listed_ends, &l.keys, &l.box_keys);
+    return lanegravel_detect(
+        page->page_width, page->page_height, page->width, page->height, page->dpi, page->xheight,
+        page->params, page->fusion, page->gray, page->gray_count, page->ink, page->ink_count,
+        page->shear, page->shear_count, page->shear_x, page->shear_x_count, page->pieces,
+        page->pieces_count, page->glyphs, page->glyphs_count, &l.levelled, rects, tags, values, chosen,
+        rest, members, ends, numbers, &l.bounds, &l.rows, &l.columns, &l.rulings, &l.page, facts, scores,
+        parents, order, &l.listed, &l.listed_ends, &l.keys, &l.box_keys);
+}
+
+/* Finding i of the `findings` that an accepted page has left in these lists, as by lanegravel_finding_at. */
+static inline struct lanegravel_finding_at_answer lanegravel_finding_in(
+    const struct lanegravel_lists *lists, size_t findings, size_t i) {
+    const struct lanegravel_lists *l = lists;
+    return lanegravel_finding_at(
+        l->page.entries, l->page.count, l->kinds.entries, l->kinds.count, l->fact_a.entries,
+        l->fact_a.count, l->fact_b.entries, l->fact_b.count, l->fact_c.entries, l->fact_c.count,
+        l->log_odds.entries, l->log_odds.count, l->first_values.entries, l->first_values.count,
+        l->first_thresholds.entries, l->first_thresholds.count, l->first_llrs.entries,
+        l->first_llrs.count, l->second_values.entries, l->second_values.count,
+        l->second_thresholds.entries, l->second_thresholds.count, l->second_llrs.entries,
+        l->second_llrs.count, l->lengths.entries, l->lengths.count, findings, i);
+}
+
+/* The count, and no more than that. */
+static inline size_t lanegravel_at_most(size_t count, size_t most) {
+    return count < most ? count : most;
+}
+
+static inline size_t lanegravel_lists_size(size_t pieces, size_t glyphs, size_t width, size_t height) {
+    size_t n = lanegravel_at_most(pieces, LANEGRAVEL_MOST_PIECES);
+    size_t m = lanegravel_at_most(glyphs, LANEGRAVEL_MOST_GLYPHS);
+    return (11 * n + 10 * m) * sizeof(double) + (32 * n + 19 * m) * sizeof(uint32_t) +
+           lanegravel_at_most(width, LANEGRAVEL_LONGEST_SIDE) *
+               lanegravel_at_most(height, LANEGRAVEL_LONGEST_SIDE);
+}
+
+/* A list of so many entries at this place, and the place behind it. */
+static inline struct lanegravel_f64_list lanegravel_f64_at(unsigned char **place, size_t count) {
+    struct lanegravel_f64_list list;
+    list.entries = (double *)(void *)*place;
+    list.count = count;
+    *place += count * sizeof(double);
+    return list;
+}
+static inline struct lanegravel_u64_list lanegravel_u64_at(unsigned char **place, size_t count) {
+    struct lanegravel_u64_list list;
+    list.entries = (uint64_t *)(void *)*place;
+    list.count = count;
+    *place += count * sizeof(uint64_t);
+    return list;
+}
+static inline struct lanegravel_u32_list lanegravel_u32_at(unsigned char **place, size_t count) {
+    struct lanegravel_u32_list list;
+    list.entries = (uint32_t *)(void *)*place;
+    list.count = count;
+    *place += count * sizeof(uint32_t);
+    return list;
+}
+
+static inline struct lanegravel_lists lanegravel_lists_over(void *memory, size_t pieces, size_t glyphs,
+                                                            size_t width, size_t height) {
+    size_t n = lanegravel_at_most(pieces, LANEGRAVEL_MOST_PIECES);
+    size_t m = lanegravel_at_most(glyphs, LANEGRAVEL_MOST_GLYPHS);
+    unsigned char *place = (unsigned char *)memory;
+    struct lanegravel_lists l;
+    l.contrasts = lanegravel_f64_at(&place, n);
+    l.shares = lanegravel_f64_at(&place, n);
+    l.coverages = lanegravel_f64_at(&place, m);
+    l.log_odds = lanegravel_f64_at(&place, n + m);
+    l.first_values = lanegravel_f64_at(&place, n + m);
+    l.first_thresholds = lanegravel_f64_at(&place, n + m);
+    l.first_llrs = lanegravel_f64_at(&place, n + m);
+    l.second_values = lanegravel_f64_at(&place, n + m);
+    l.second_thresholds = lanegravel_f64_at(&place, n + m);
+    l.second_llrs = lanegravel_f64_at(&place, n + m);
+    l.lengths = lanegravel_f64_at(&place, n + m);
+    l.keys = lanegravel_u64_at(&place, n);
+    l.box_keys = lanegravel_u64_at(&place, m);
+    l.rects = lanegravel_u32_at(&place, 4 * n);
+    l.directions = lanegravel_u32_at(&place, n);
+    l.printed = lanegravel_u32_at(&place, n);
+    l.faint = lanegravel_u32_at(&place, n);
+    l.bounds = lanegravel_u32_at(&place, 4 * n);
+    l.rows = lanegravel_u32_at(&place, n);
+    l.columns = lanegravel_u32_at(&place, n);
+    l.rulings = lanegravel_u32_at(&place, n);
+    l.free = lanegravel_u32_at(&place, n);
+    l.boxes = lanegravel_u32_at(&place, 4 * m);
+    l.marks = lanegravel_u32_at(&place, m);
+    l.reading = lanegravel_u32_at(&place, m);
+    l.piece_members = lanegravel_u32_at(&place, n);
+    l.printed_members = lanegravel_u32_at(&place, n);
+    l.box_members = lanegravel_u32_at(&place, m);
+    l.piece_ends = lanegravel_u32_at(&place, n);
+    l.printed_ends = lanegravel_u32_at(&place, n);
+    l.box_ends = lanegravel_u32_at(&place, m);
+    l.table_numbers = lanegravel_u32_at(&place, n);
+    l.grid_numbers = lanegravel_u32_at(&place, m);
+    l.page = lanegravel_u32_at(&place, 4 * (n + m));
+    l.kinds = lanegravel_u32_at(&place, n + m);
+    l.fact_a = lanegravel_u32_at(&place, n + m);
+    l.fact_b = lanegravel_u32_at(&place, n + m);
+    l.fact_c = lanegravel_u32_at(&place, n + m);
+    l.parents = lanegravel_u32_at(&place, n);
+    l.listed = lanegravel_u32_at(&place, n);
+    l.listed_ends = lanegravel_u32_at(&place, n);
+    l.order = lanegravel_u32_at(&place, n);
+    l.box_parents = lanegravel_u32_at(&place, m);
+    l.box_order = lanegravel_u32_at(&place, m);
+    l.levelled.entries = place;
+    l.levelled.count = lanegravel_at_most(width, LANEGRAVEL_LONGEST_SIDE) *
+                       lanegravel_at_most(height, LANEGRAVEL_LONGEST_SIDE);
+    return l;
 }
 
 #ifdef __cplusplus

@@ -2,8 +2,9 @@
 
 use std::hint::black_box;
 
+use differential::owned::GlyphsPage;
 use differential::{grids, masks};
-use lanegravel_binding::boxes::{self as ffi, Lent, Page};
+use lanegravel_binding::boxes::{self as ffi, BoxesLists};
 use lanegravel_binding::grids::{self as ffi_grids, GridsLists};
 use pagetriage::pixel::rulings;
 
@@ -25,17 +26,17 @@ pub const MEASUREMENTS: [Measurement; 4] = [
     }),
 ];
 
-fn find(page: Page) -> Times {
+fn find(page: GlyphsPage) -> Times {
     let layout = with_glyphs(&page);
     let p = params::rust(&page.params);
-    let mut lent = Lent::with_room(page.glyphs.len() / 4);
-    let found = ffi::boxes(&page, &mut lent);
+    let mut lent = BoxesLists::with_room(page.glyphs.len() / 4);
+    let found = ffi::boxes(&page.given(), &mut lent);
     let theirs = rulings::boxes(&layout, page.dpi, &p);
     assert_eq!((found.number, found.count), (0, theirs.len()));
     compare(
         21,
         || {
-            black_box(ffi::boxes(black_box(&page), &mut lent));
+            black_box(ffi::boxes(black_box(&page.given()), &mut lent));
         },
         || {
             black_box(rulings::boxes(black_box(&layout), page.dpi, &p));

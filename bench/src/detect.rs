@@ -2,11 +2,11 @@
 
 use std::hint::black_box;
 
+use differential::owned::{GlyphsPage, PiecesPage, WholePage};
 use differential::pages::composed;
 use differential::refusals::workspace;
 use differential::{forms, masks, pieces};
-use lanegravel_binding::detect::{self as ffi, Page};
-use lanegravel_binding::{boxes, segments};
+use lanegravel_binding::detect as ffi;
 use pagetriage::pixel::rulings;
 
 use crate::params;
@@ -21,7 +21,7 @@ pub const MEASUREMENTS: [Measurement; 4] = [
     }),
     ("detect, 100 pages of 64 by 64 with ten pieces", || {
         let mut random = Random::new(1);
-        let pages: Vec<Page> = (0..100).map(|_| tiny(&mut random)).collect();
+        let pages: Vec<WholePage> = (0..100).map(|_| tiny(&mut random)).collect();
         read(&pages, 201)
     }),
     ("detect, 4,096 pieces and 16,384 glyph boxes", || {
@@ -35,8 +35,8 @@ pub const MEASUREMENTS: [Measurement; 4] = [
 ];
 
 /// Ten strokes, and up to six glyph boxes.
-fn tiny(random: &mut Random) -> Page {
-    let mut rules = segments::Page {
+fn tiny(random: &mut Random) -> WholePage {
+    let mut rules = PiecesPage {
         xheight: 4.0,
         ..pieces::picture(random, 64, 64)
     };
@@ -53,7 +53,7 @@ fn tiny(random: &mut Random) -> Page {
             rules.raster[row + x0 as usize..=row + x1 as usize].fill(20);
         }
     }
-    let mut marks = boxes::Page {
+    let mut marks = GlyphsPage {
         xheight: 4.0,
         ..masks::blank(64, 64)
     };
@@ -64,9 +64,9 @@ fn tiny(random: &mut Random) -> Page {
 }
 
 /// A page of A4 at 300 dots an inch full of strokes, none near another, and of squares in rows.
-fn crowded() -> Page {
+fn crowded() -> WholePage {
     let (width, height) = (2_480, 3_508);
-    let mut rules = segments::Page {
+    let mut rules = PiecesPage {
         xheight: 10.0,
         ..pieces::picture(&mut Random::new(1), width, height)
     };
@@ -88,7 +88,7 @@ fn crowded() -> Page {
     composed(rules, marks, height, vec![0; width], vec![0; height])
 }
 
-fn read(pages: &[Page], runs: usize) -> Times {
+fn read(pages: &[WholePage], runs: usize) -> Times {
     let given: Vec<_> = pages
         .iter()
         .map(|page| {
@@ -102,7 +102,7 @@ fn read(pages: &[Page], runs: usize) -> Times {
         rulings::detect_with(layout, &pages[k].gray, pages[k].dpi, p, fusion)
     };
     for (k, page) in pages.iter().enumerate() {
-        let found = ffi::detect(page, &mut lent[k]);
+        let found = ffi::detect(&page.given(), &mut lent[k]);
         let findings = theirs(k).map_or(usize::MAX, |their| their.findings.len());
         assert_eq!((found.number, found.findings), (0, findings));
     }
@@ -110,7 +110,7 @@ fn read(pages: &[Page], runs: usize) -> Times {
         runs,
         || {
             for (page, lent) in pages.iter().zip(&mut lent) {
-                black_box(ffi::detect(black_box(page), lent));
+                black_box(ffi::detect(black_box(&page.given()), lent));
             }
         },
         || {

@@ -2,7 +2,8 @@
 
 use std::hint::black_box;
 
-use lanegravel_binding::layout::{self as ffi, Page};
+use differential::owned::LayoutPage;
+use lanegravel_binding::layout as ffi;
 
 use crate::random::Random;
 use crate::rust_layout::layout;
@@ -19,15 +20,15 @@ pub const MEASUREMENTS: [Measurement; 3] = [
     ),
 ];
 
-fn level(page: Page) -> Times {
+fn level(page: LayoutPage) -> Times {
     let layout = layout(&page);
     let mut out = vec![0; page.width * page.height];
-    assert_eq!(ffi::level_gray(&page, &mut out), 0);
+    assert_eq!(ffi::level_gray(&page.given(), &mut out), 0);
     assert_eq!(out, layout.level_gray(&page.gray));
     compare(
         21,
         || {
-            black_box(ffi::level_gray(black_box(&page), &mut out));
+            black_box(ffi::level_gray(black_box(&page.given()), &mut out));
         },
         || {
             black_box(black_box(&layout).level_gray(&page.gray));
@@ -36,17 +37,17 @@ fn level(page: Page) -> Times {
 }
 
 /// Each column goes down, and each row to the right, as far as the slope says.
-fn skewed(slope: f64) -> Page {
+fn skewed(slope: f64) -> LayoutPage {
     let step = |i: usize| (i as f64 * slope) as i32;
     page((0..2_480).map(step).collect(), step)
 }
 
-fn page(shear: Vec<i32>, across: impl Fn(usize) -> i32) -> Page {
+fn page(shear: Vec<i32>, across: impl Fn(usize) -> i32) -> LayoutPage {
     let (page_width, page_height) = (2_480, 3_508);
     let height = page_height + shear[page_width - 1] as usize;
     let shear_x: Vec<i32> = (0..height).map(across).collect();
     let mut random = Random::new(1);
-    Page {
+    LayoutPage {
         page_width,
         page_height,
         width: page_width + shear_x[height - 1] as usize,

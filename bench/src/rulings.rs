@@ -2,7 +2,8 @@
 
 use std::hint::black_box;
 
-use lanegravel_binding::segments::{self as ffi, Lent, Page};
+use differential::owned::PiecesPage;
+use lanegravel_binding::segments::{self as ffi, SegmentsLists};
 use pagetriage::pixel::rulings;
 
 use crate::params::{self, VALID};
@@ -33,7 +34,7 @@ pub const MEASUREMENTS: [Measurement; 5] = [
 
 /// Five tables of 9 rows and 4 columns on A4 at 300 dots an inch, each rule in four pieces that lie
 /// up to a pixel apart and are darker than the paper.
-fn drawn_page() -> Page {
+fn drawn_page() -> PiecesPage {
     let random = &mut Random::new(1);
     let mut page = page(2_480, 3_508, 24.0, Vec::new());
     page.raster.fill_with(|| 215 + random.below(41) as u8);
@@ -53,7 +54,7 @@ fn drawn_page() -> Page {
 }
 
 /// One piece, moved by up to a pixel across its rule.
-fn draw(random: &mut Random, page: &mut Page, [x0, y0, x1, y1]: [u32; 4]) {
+fn draw(random: &mut Random, page: &mut PiecesPage, [x0, y0, x1, y1]: [u32; 4]) {
     let across = random.below(2) as u32;
     let (right, down) = if x1 - x0 > y1 - y0 {
         (0, across)
@@ -69,9 +70,9 @@ fn draw(random: &mut Random, page: &mut Page, [x0, y0, x1, y1]: [u32; 4]) {
     page.pieces.extend([x0, y0, x1, y1]);
 }
 
-fn page(width: usize, height: usize, xheight: f64, pieces: Vec<u32>) -> Page {
+fn page(width: usize, height: usize, xheight: f64, pieces: Vec<u32>) -> PiecesPage {
     let mut random = Random::new(1);
-    Page {
+    PiecesPage {
         width,
         height,
         xheight,
@@ -81,18 +82,18 @@ fn page(width: usize, height: usize, xheight: f64, pieces: Vec<u32>) -> Page {
     }
 }
 
-fn join(page: Page) -> Times {
+fn join(page: PiecesPage) -> Times {
     let n = page.pieces.len() / 4;
     let layout = with_rules(page.width, page.height, page.xheight, &page.pieces);
     let p = params::rust(&page.params);
-    let mut lent = Lent::with_room(n, n);
-    let found = ffi::segments(&page, &mut lent);
+    let mut lent = SegmentsLists::with_room(n, n);
+    let found = ffi::segments(&page.given(), &mut lent);
     let theirs = rulings::segments(&layout, &page.raster, &p);
     assert_eq!((found.number, found.count), (0, theirs.len()));
     compare(
         21,
         || {
-            black_box(ffi::segments(black_box(&page), &mut lent));
+            black_box(ffi::segments(black_box(&page.given()), &mut lent));
         },
         || {
             black_box(rulings::segments(black_box(&layout), &page.raster, &p));

@@ -1,45 +1,122 @@
-//! The calls about findings.
+//! Findings, and the calls about them.
 
-/// The lists of findings, four numbers each in `rects` and one entry in every other.
-#[derive(Clone, Debug, Default)]
-pub struct FindingLists {
-    pub rects: Vec<u32>,
-    pub kinds: Vec<u32>,
-    pub a: Vec<u32>,
-    pub b: Vec<u32>,
-    pub c: Vec<u32>,
-    pub log_odds: Vec<f64>,
-    pub first_values: Vec<f64>,
-    pub first_thresholds: Vec<f64>,
-    pub first_llrs: Vec<f64>,
-    pub second_values: Vec<f64>,
-    pub second_thresholds: Vec<f64>,
-    pub second_llrs: Vec<f64>,
-    pub lengths: Vec<f64>,
+use crate::found::Direction;
+use crate::lists::lists;
+use crate::raw;
+
+/// A number that speaks for a finding or against it.
+#[derive(Clone, Copy, Debug, PartialEq)]
+pub struct Evidence {
+    pub value: f64,
+    /// What the value is held against.
+    pub threshold: f64,
+    /// The log likelihood ratio that comes of it.
+    pub llr: f64,
 }
 
-impl FindingLists {
-    /// Room for this many findings.
-    pub fn with_room(findings: usize) -> Self {
-        FindingLists {
-            rects: vec![0; 4 * findings],
-            kinds: vec![0; findings],
-            a: vec![0; findings],
-            b: vec![0; findings],
-            c: vec![0; findings],
-            log_odds: vec![0.0; findings],
-            first_values: vec![0.0; findings],
-            first_thresholds: vec![0.0; findings],
-            first_llrs: vec![0.0; findings],
-            second_values: vec![0.0; findings],
-            second_thresholds: vec![0.0; findings],
-            second_llrs: vec![0.0; findings],
-            lengths: vec![0.0; findings],
+/// What was found at a place of the page: a rectangle on the page itself, not levelled, with x0, y0, x1, y1,
+/// both ends inside; the log odds; the facts of its kind; and its evidence.
+#[derive(Clone, Copy, Debug, PartialEq)]
+pub enum Finding {
+    Table {
+        rect: [u32; 4],
+        log_odds: f64,
+        rows: u32,
+        columns: u32,
+        rulings: u32,
+        /// Of its cells, and of the share of joined ends.
+        evidence: [Evidence; 2],
+    },
+    /// All printed rulings that are in no table.
+    FreeRules {
+        rect: [u32; 4],
+        log_odds: f64,
+        horizontal: u32,
+        vertical: u32,
+        /// The length of the longest, in pixels.
+        longest: u32,
+        /// Of their number, and of their mean contrast.
+        evidence: [Evidence; 2],
+    },
+    Grid {
+        rect: [u32; 4],
+        log_odds: f64,
+        boxes: u32,
+        ticked: u32,
+        /// Of the number of boxes, and of their mean edge coverage.
+        evidence: [Evidence; 2],
+    },
+    /// A faint ruling.
+    Fold {
+        rect: [u32; 4],
+        log_odds: f64,
+        direction: Direction,
+        /// In inches.
+        length: f64,
+        /// Of its contrast.
+        evidence: [Evidence; 1],
+    },
+}
+
+impl Finding {
+    /// 16, 17, 18 or 19, as the lists have it.
+    pub fn kind(&self) -> u32 {
+        match self {
+            Finding::Table { .. } => 16,
+            Finding::FreeRules { .. } => 17,
+            Finding::Grid { .. } => 18,
+            Finding::Fold { .. } => 19,
+        }
+    }
+
+    pub fn rect(&self) -> [u32; 4] {
+        match *self {
+            Finding::Table { rect, .. }
+            | Finding::FreeRules { rect, .. }
+            | Finding::Grid { rect, .. }
+            | Finding::Fold { rect, .. } => rect,
+        }
+    }
+
+    pub fn log_odds(&self) -> f64 {
+        match *self {
+            Finding::Table { log_odds, .. }
+            | Finding::FreeRules { log_odds, .. }
+            | Finding::Grid { log_odds, .. }
+            | Finding::Fold { log_odds, .. } => log_odds,
+        }
+    }
+
+    pub fn evidence(&self) -> &[Evidence] {
+        match self {
+            Finding::Table { evidence, .. }
+            | Finding::FreeRules { evidence, .. }
+            | Finding::Grid { evidence, .. } => evidence,
+            Finding::Fold { evidence, .. } => evidence,
         }
     }
 }
 
-/// `found` is 1 and the rest is the finding, or all is 0.
+lists! {
+    /// The lists of findings, four numbers each in `rects` and one entry in every other.
+    FindingLists(findings: usize) {
+        rects: [u32; 4 * findings],
+        kinds: [u32; findings],
+        a: [u32; findings],
+        b: [u32; findings],
+        c: [u32; findings],
+        log_odds: [f64; findings],
+        first_values: [f64; findings],
+        first_thresholds: [f64; findings],
+        first_llrs: [f64; findings],
+        second_values: [f64; findings],
+        second_thresholds: [f64; findings],
+        second_llrs: [f64; findings],
+        lengths: [f64; findings],
+    }
+}
+
+/// A finding as C has it: `found` is 1 and the rest is the finding, or all is 0.
 #[repr(C)]
 #[derive(Clone, Copy, Debug, Default, PartialEq)]
 pub struct FindingAtAnswer {
@@ -62,78 +139,77 @@ pub struct FindingAtAnswer {
     pub length: f64,
 }
 
-unsafe extern "C" {
-    fn lanegravel_log_odds(prior: f64, llrs: *const f64, llrs_count: usize, group_cap: f64) -> f64;
-    fn lanegravel_finding_at(
-        rects: *const u32,
-        rects_count: usize,
-        kinds: *const u32,
-        kinds_count: usize,
-        a: *const u32,
-        a_count: usize,
-        b: *const u32,
-        b_count: usize,
-        c: *const u32,
-        c_count: usize,
-        log_odds: *const f64,
-        log_odds_count: usize,
-        first_values: *const f64,
-        first_values_count: usize,
-        first_thresholds: *const f64,
-        first_thresholds_count: usize,
-        first_llrs: *const f64,
-        first_llrs_count: usize,
-        second_values: *const f64,
-        second_values_count: usize,
-        second_thresholds: *const f64,
-        second_thresholds_count: usize,
-        second_llrs: *const f64,
-        second_llrs_count: usize,
-        lengths: *const f64,
-        lengths_count: usize,
-        count: usize,
-        i: usize,
-    ) -> FindingAtAnswer;
-}
-
+/// The log odds of a finding with these llrs.
 pub fn log_odds(prior: f64, llrs: &[f64], group_cap: f64) -> f64 {
-    // SAFETY: as lib.rs says.
-    unsafe { lanegravel_log_odds(prior, llrs.as_ptr(), llrs.len(), group_cap) }
+    raw::lanegravel_log_odds(prior, llrs, group_cap)
 }
 
-/// Finding `i` of `count`.
-pub fn finding_at(l: &FindingLists, count: usize, i: usize) -> FindingAtAnswer {
-    // SAFETY: as lib.rs says.
-    unsafe {
-        lanegravel_finding_at(
-            l.rects.as_ptr(),
-            l.rects.len(),
-            l.kinds.as_ptr(),
-            l.kinds.len(),
-            l.a.as_ptr(),
-            l.a.len(),
-            l.b.as_ptr(),
-            l.b.len(),
-            l.c.as_ptr(),
-            l.c.len(),
-            l.log_odds.as_ptr(),
-            l.log_odds.len(),
-            l.first_values.as_ptr(),
-            l.first_values.len(),
-            l.first_thresholds.as_ptr(),
-            l.first_thresholds.len(),
-            l.first_llrs.as_ptr(),
-            l.first_llrs.len(),
-            l.second_values.as_ptr(),
-            l.second_values.len(),
-            l.second_thresholds.as_ptr(),
-            l.second_thresholds.len(),
-            l.second_llrs.as_ptr(),
-            l.second_llrs.len(),
-            l.lengths.as_ptr(),
-            l.lengths.len(),
-            count,
-            i,
-        )
+/// Finding `i` of `count`, if there is one.
+pub fn finding(lists: &FindingLists, count: usize, i: usize) -> Option<Finding> {
+    let f = finding_at(lists, count, i);
+    let (rect, log_odds) = ([f.x0, f.y0, f.x1, f.y1], f.log_odds);
+    let first = Evidence {
+        value: f.first_value,
+        threshold: f.first_threshold,
+        llr: f.first_llr,
+    };
+    let second = Evidence {
+        value: f.second_value,
+        threshold: f.second_threshold,
+        llr: f.second_llr,
+    };
+    match f.kind {
+        16 => Some(Finding::Table {
+            rect,
+            log_odds,
+            rows: f.a,
+            columns: f.b,
+            rulings: f.c,
+            evidence: [first, second],
+        }),
+        17 => Some(Finding::FreeRules {
+            rect,
+            log_odds,
+            horizontal: f.a,
+            vertical: f.b,
+            longest: f.c,
+            evidence: [first, second],
+        }),
+        18 => Some(Finding::Grid {
+            rect,
+            log_odds,
+            boxes: f.a,
+            ticked: f.b,
+            evidence: [first, second],
+        }),
+        19 => Some(Finding::Fold {
+            rect,
+            log_odds,
+            direction: Direction::numbered(f.a),
+            length: f.length,
+            evidence: [first],
+        }),
+        _ => None,
     }
+}
+
+/// The same as C has it.
+pub fn finding_at(l: &FindingLists, count: usize, i: usize) -> FindingAtAnswer {
+    raw::lanegravel_finding_at(
+        &l.rects,
+        &l.kinds,
+        &l.a,
+        &l.b,
+        &l.c,
+        &l.log_odds,
+        &l.first_values,
+        &l.first_thresholds,
+        &l.first_llrs,
+        &l.second_values,
+        &l.second_thresholds,
+        &l.second_llrs,
+        &l.lengths,
+        count,
+        i,
+    )
 }

@@ -1,25 +1,23 @@
 //! Float steps.
 
-unsafe extern "C" {
-    fn lanegravel_pairwise_sum(values: *const f64, count: usize) -> f64;
-    safe fn lanegravel_round_output(x: f64) -> f64;
-    safe fn lanegravel_rounded_product(a: f64, b: f64) -> i64;
-    safe fn lanegravel_round(x: f64) -> f64;
-}
+use crate::raw;
 
+/// The sum of the values; a list of more than eight is cut in half and each half summed.
 pub fn pairwise_sum(values: &[f64]) -> f64 {
-    // SAFETY: as lib.rs says.
-    unsafe { lanegravel_pairwise_sum(values.as_ptr(), values.len()) }
+    raw::lanegravel_pairwise_sum(values)
 }
 
+/// The number to six decimals.
 pub fn round_output(x: f64) -> f64 {
-    lanegravel_round_output(x)
+    raw::lanegravel_round_output(x)
 }
 
+/// The product to the nearest whole number.
 pub fn rounded_product(a: f64, b: f64) -> i64 {
-    lanegravel_rounded_product(a, b)
+    raw::lanegravel_rounded_product(a, b)
 }
 
+/// The nearest whole number, halves away from zero.
 pub fn round(x: f64) -> f64 {
-    lanegravel_round(x)
+    raw::lanegravel_round(x)
 }

@@ -1,92 +1,47 @@
 //! The call about grids.
 
+use crate::lists::{answer, lists};
+use crate::raw;
 use crate::settings::RulingsParams;
 
-#[repr(C)]
-#[derive(Clone, Copy, Debug)]
-pub struct BoxGridsAnswer {
-    pub number: u32,
-    pub sets: usize,
-    pub grids: usize,
-}
-
-/// The lists that `box_grids` is lent: answers, then work lists.
-#[derive(Clone)]
-pub struct GridsLists {
-    pub members: Vec<u32>,
-    pub ends: Vec<u32>,
-    pub reading: Vec<u32>,
-    pub numbers: Vec<u32>,
-    pub parents: Vec<u32>,
-    pub work: Vec<u32>,
-    pub keys: Vec<u64>,
-}
-
-impl GridsLists {
-    /// Room for this many entries in each list.
-    pub fn with_room(index: usize) -> Self {
-        GridsLists {
-            members: vec![0; index],
-            ends: vec![0; index],
-            reading: vec![0; index],
-            numbers: vec![0; index],
-            parents: vec![0; index],
-            work: vec![0; index],
-            keys: vec![0; index],
-        }
+answer! {
+    BoxGridsAnswer {
+        /// How many closed sets of boxes there are.
+        sets: usize,
+        grids: usize,
     }
 }
 
-unsafe extern "C" {
-    fn lanegravel_box_grids(
-        xheight: f64,
-        p: RulingsParams,
-        rects: *const u32,
-        rects_count: usize,
-        members: *mut u32,
-        members_count: usize,
-        ends: *mut u32,
-        ends_count: usize,
-        reading: *mut u32,
-        reading_count: usize,
-        numbers: *mut u32,
-        numbers_count: usize,
-        parents: *mut u32,
-        parents_count: usize,
-        work: *mut u32,
-        work_count: usize,
-        keys: *mut u64,
-        keys_count: usize,
-    ) -> BoxGridsAnswer;
+lists! {
+    /// What the call is lent: the lists that it answers in, then its work lists.
+    GridsLists(index: usize) {
+        members: [u32; index],
+        ends: [u32; index],
+        reading: [u32; index],
+        numbers: [u32; index],
+        parents: [u32; index],
+        work: [u32; index],
+        keys: [u64; index],
+    }
 }
 
+/// Finds the grids among boxes, four numbers each in `rects`.
 pub fn box_grids(
     xheight: f64,
     p: &RulingsParams,
     rects: &[u32],
     l: &mut GridsLists,
 ) -> BoxGridsAnswer {
-    // SAFETY: as lib.rs says.
-    unsafe {
-        lanegravel_box_grids(
-            xheight,
-            *p,
-            rects.as_ptr(),
-            rects.len(),
-            l.members.as_mut_ptr(),
-            l.members.len(),
-            l.ends.as_mut_ptr(),
-            l.ends.len(),
-            l.reading.as_mut_ptr(),
-            l.reading.len(),
-            l.numbers.as_mut_ptr(),
-            l.numbers.len(),
-            l.parents.as_mut_ptr(),
-            l.parents.len(),
-            l.work.as_mut_ptr(),
-            l.work.len(),
-            l.keys.as_mut_ptr(),
-            l.keys.len(),
-        )
-    }
+    raw::lanegravel_box_grids(
+        xheight,
+        *p,
+        rects,
+        &mut l.members,
+        &mut l.ends,
+        &mut l.reading,
+        &mut l.numbers,
+        &mut l.parents,
+        &mut l.work,
+        &mut l.keys,
+    )
 }

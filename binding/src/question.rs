@@ -89,6 +89,14 @@ impl Question {
     }
 }
 
+/// Nothing for 0, and otherwise the question of this number.
+pub fn accepted(number: u32) -> Result<(), Question> {
+    match number {
+        0 => Ok(()),
+        _ => Err(Question::numbered(number).expect("the library's numbers are those of questions")),
+    }
+}
+
 impl fmt::Display for Question {
     fn fmt(&self, out: &mut fmt::Formatter) -> fmt::Result {
         write!(out, "question {} is missed: {}", self.number(), self.asks())

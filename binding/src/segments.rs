@@ -1,124 +1,61 @@
 //! The call about rulings.
 
+use crate::lists::{answer, lists};
+use crate::raw;
 use crate::settings::RulingsParams;
 
-/// What the call is given.
-#[derive(Clone, Debug)]
-pub struct Page {
+/// What the call is given: a levelled picture and its rule pieces, four numbers each.
+#[derive(Clone, Copy, Debug)]
+pub struct Page<'a> {
     pub width: usize,
     pub height: usize,
     pub xheight: f64,
-    pub raster: Vec<u8>,
-    pub pieces: Vec<u32>,
+    pub raster: &'a [u8],
+    pub pieces: &'a [u32],
     pub params: RulingsParams,
 }
 
-/// What the call is lent: the lists that it answers in, then its work lists.
-#[derive(Clone, Debug)]
-pub struct Lent {
-    pub rects: Vec<u32>,
-    pub directions: Vec<u32>,
-    pub contrasts: Vec<f64>,
-    pub members: Vec<u32>,
-    pub ends: Vec<u32>,
-    pub parents: Vec<u32>,
-    pub listed: Vec<u32>,
-    pub listed_ends: Vec<u32>,
-    pub work: Vec<u32>,
-    pub keys: Vec<u64>,
-}
-
-impl Lent {
-    /// Room for this many rulings, and this many entries in each other list.
-    pub fn with_room(rulings: usize, index: usize) -> Self {
-        Lent {
-            rects: vec![0; 4 * rulings],
-            directions: vec![0; rulings],
-            contrasts: vec![0.0; rulings],
-            members: vec![0; index],
-            ends: vec![0; index],
-            parents: vec![0; index],
-            listed: vec![0; index],
-            listed_ends: vec![0; index],
-            work: vec![0; index],
-            keys: vec![0; index],
-        }
+lists! {
+    /// What the call is lent: the lists that it answers in, then its work lists.
+    SegmentsLists(rulings: usize, index: usize) {
+        rects: [u32; 4 * rulings],
+        directions: [u32; rulings],
+        contrasts: [f64; rulings],
+        members: [u32; index],
+        ends: [u32; index],
+        parents: [u32; index],
+        listed: [u32; index],
+        listed_ends: [u32; index],
+        work: [u32; index],
+        keys: [u64; index],
     }
 }
 
-/// The number of the first missed question, 0 where none is, and how many rulings there are.
-#[repr(C)]
-#[derive(Clone, Copy, Debug)]
-pub struct SegmentsAnswer {
-    pub number: u32,
-    pub count: usize,
-}
-
-unsafe extern "C" {
-    fn lanegravel_segments(
-        raster: *const u8,
-        raster_count: usize,
-        width: usize,
-        height: usize,
-        xheight: f64,
-        pieces: *const u32,
-        pieces_count: usize,
-        p: RulingsParams,
-        rects: *mut u32,
-        rects_count: usize,
-        directions: *mut u32,
-        directions_count: usize,
-        contrasts: *mut f64,
-        contrasts_count: usize,
-        members: *mut u32,
-        members_count: usize,
-        ends: *mut u32,
-        ends_count: usize,
-        parents: *mut u32,
-        parents_count: usize,
-        listed: *mut u32,
-        listed_count: usize,
-        listed_ends: *mut u32,
-        listed_ends_count: usize,
-        work: *mut u32,
-        work_count: usize,
-        keys: *mut u64,
-        keys_count: usize,
-    ) -> SegmentsAnswer;
-}
-
-pub fn segments(page: &Page, lent: &mut Lent) -> SegmentsAnswer {
-    // SAFETY: as lib.rs says.
-    unsafe {
-        lanegravel_segments(
-            page.raster.as_ptr(),
-            page.raster.len(),
-            page.width,
-            page.height,
-            page.xheight,
-            page.pieces.as_ptr(),
-            page.pieces.len(),
-            page.params,
-            lent.rects.as_mut_ptr(),
-            lent.rects.len(),
-            lent.directions.as_mut_ptr(),
-            lent.directions.len(),
-            lent.contrasts.as_mut_ptr(),
-            lent.contrasts.len(),
-            lent.members.as_mut_ptr(),
-            lent.members.len(),
-            lent.ends.as_mut_ptr(),
-            lent.ends.len(),
-            lent.parents.as_mut_ptr(),
-            lent.parents.len(),
-            lent.listed.as_mut_ptr(),
-            lent.listed.len(),
-            lent.listed_ends.as_mut_ptr(),
-            lent.listed_ends.len(),
-            lent.work.as_mut_ptr(),
-            lent.work.len(),
-            lent.keys.as_mut_ptr(),
-            lent.keys.len(),
-        )
+answer! {
+    SegmentsAnswer {
+        /// How many rulings there are.
+        count: usize,
     }
+}
+
+/// Joins the pieces to rulings.
+pub fn segments(page: &Page, l: &mut SegmentsLists) -> SegmentsAnswer {
+    raw::lanegravel_segments(
+        page.raster,
+        page.width,
+        page.height,
+        page.xheight,
+        page.pieces,
+        page.params,
+        &mut l.rects,
+        &mut l.directions,
+        &mut l.contrasts,
+        &mut l.members,
+        &mut l.ends,
+        &mut l.parents,
+        &mut l.listed,
+        &mut l.listed_ends,
+        &mut l.work,
+        &mut l.keys,
+    )
 }

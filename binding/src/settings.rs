@@ -1,11 +1,10 @@
 //! The settings, and the questions about them.
 
-unsafe extern "C" {
-    safe fn lanegravel_validate(p: RulingsParams) -> u32;
-    safe fn lanegravel_validate_fusion(f: FusionParams) -> u32;
-}
+use crate::question::{Question, accepted};
+use crate::raw;
 
-/// The settings, with the Rust's names in the Rust's order.
+/// The settings, with the Rust's names in the Rust's order. The default has zeros alone: it is there to be
+/// filled in, and question 11 refuses it.
 #[repr(C)]
 #[derive(Clone, Copy, Debug, Default)]
 pub struct RulingsParams {
@@ -43,16 +42,34 @@ pub struct RulingsParams {
 
 /// The bounds of the log odds.
 #[repr(C)]
-#[derive(Clone, Copy, Debug)]
+#[derive(Clone, Copy, Debug, Default)]
 pub struct FusionParams {
     pub llr_clip: f64,
     pub group_cap: f64,
 }
 
-pub fn validate(p: &RulingsParams) -> u32 {
-    lanegravel_validate(*p)
+impl RulingsParams {
+    /// The settings, unless they miss one of questions 7 to 11 and 13.
+    pub fn validate(self) -> Result<Self, Question> {
+        accepted(validate(&self))?;
+        Ok(self)
+    }
 }
 
+impl FusionParams {
+    /// The bounds, unless they miss question 12.
+    pub fn validate(self) -> Result<Self, Question> {
+        accepted(validate_fusion(self))?;
+        Ok(self)
+    }
+}
+
+/// The number of the first question that the settings miss, 0 where they miss none.
+pub fn validate(p: &RulingsParams) -> u32 {
+    raw::lanegravel_validate(*p)
+}
+
+/// 12 where the bounds miss that question, else 0.
 pub fn validate_fusion(f: FusionParams) -> u32 {
-    lanegravel_validate_fusion(f)
+    raw::lanegravel_validate_fusion(f)
 }

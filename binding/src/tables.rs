@@ -1,92 +1,40 @@
 //! The call about tables.
 
+use crate::lists::{answer, lists};
+use crate::raw;
 use crate::settings::RulingsParams;
 
-unsafe extern "C" {
-    fn lanegravel_tables(
-        xheight: f64,
-        p: RulingsParams,
-        rects: *const u32,
-        rects_count: usize,
-        directions: *const u32,
-        directions_count: usize,
-        members: *mut u32,
-        members_count: usize,
-        ends: *mut u32,
-        ends_count: usize,
-        numbers: *mut u32,
-        numbers_count: usize,
-        bounds: *mut u32,
-        bounds_count: usize,
-        rows: *mut u32,
-        rows_count: usize,
-        columns: *mut u32,
-        columns_count: usize,
-        rulings: *mut u32,
-        rulings_count: usize,
-        shares: *mut f64,
-        shares_count: usize,
-        free: *mut u32,
-        free_count: usize,
-        chosen: *mut u32,
-        chosen_count: usize,
-        parents: *mut u32,
-        parents_count: usize,
-        work: *mut u32,
-        work_count: usize,
-        keys: *mut u64,
-        keys_count: usize,
-    ) -> TablesAnswer;
-}
-
-#[repr(C)]
-#[derive(Clone, Copy, Debug)]
-pub struct TablesAnswer {
-    pub number: u32,
-    pub sets: usize,
-    pub tables: usize,
-    pub free: usize,
-}
-
-/// The lists that `tables` is lent: answers, then work lists.
-#[derive(Clone)]
-pub struct TablesLists {
-    pub members: Vec<u32>,
-    pub ends: Vec<u32>,
-    pub numbers: Vec<u32>,
-    pub bounds: Vec<u32>,
-    pub rows: Vec<u32>,
-    pub columns: Vec<u32>,
-    pub rulings: Vec<u32>,
-    pub shares: Vec<f64>,
-    pub free: Vec<u32>,
-    pub chosen: Vec<u32>,
-    pub parents: Vec<u32>,
-    pub work: Vec<u32>,
-    pub keys: Vec<u64>,
-}
-
-impl TablesLists {
-    /// Room for this many tables, and this many entries in each other list.
-    pub fn with_room(tables: usize, index: usize) -> Self {
-        TablesLists {
-            members: vec![0; index],
-            ends: vec![0; index],
-            numbers: vec![0; tables],
-            bounds: vec![0; 4 * tables],
-            rows: vec![0; tables],
-            columns: vec![0; tables],
-            rulings: vec![0; tables],
-            shares: vec![0.0; tables],
-            free: vec![0; index],
-            chosen: vec![0; index],
-            parents: vec![0; index],
-            work: vec![0; index],
-            keys: vec![0; index],
-        }
+answer! {
+    TablesAnswer {
+        /// How many closed sets of rulings there are.
+        sets: usize,
+        tables: usize,
+        /// How many rulings are in no table.
+        free: usize,
     }
 }
 
+lists! {
+    /// What the call is lent: the lists that it answers in, then its work lists.
+    TablesLists(tables: usize, index: usize) {
+        members: [u32; index],
+        ends: [u32; index],
+        numbers: [u32; tables],
+        bounds: [u32; 4 * tables],
+        rows: [u32; tables],
+        columns: [u32; tables],
+        rulings: [u32; tables],
+        shares: [f64; tables],
+        free: [u32; index],
+        chosen: [u32; index],
+        parents: [u32; index],
+        work: [u32; index],
+        keys: [u64; index],
+    }
+}
+
+/// Finds the tables among rulings: four numbers each in `rects`, and 0 for horizontal or 1 for vertical
+/// in `directions`.
 pub fn tables(
     xheight: f64,
     p: &RulingsParams,
@@ -94,41 +42,23 @@ pub fn tables(
     directions: &[u32],
     l: &mut TablesLists,
 ) -> TablesAnswer {
-    // SAFETY: as lib.rs says.
-    unsafe {
-        lanegravel_tables(
-            xheight,
-            *p,
-            rects.as_ptr(),
-            rects.len(),
-            directions.as_ptr(),
-            directions.len(),
-            l.members.as_mut_ptr(),
-            l.members.len(),
-            l.ends.as_mut_ptr(),
-            l.ends.len(),
-            l.numbers.as_mut_ptr(),
-            l.numbers.len(),
-            l.bounds.as_mut_ptr(),
-            l.bounds.len(),
-            l.rows.as_mut_ptr(),
-            l.rows.len(),
-            l.columns.as_mut_ptr(),
-            l.columns.len(),
-            l.rulings.as_mut_ptr(),
-            l.rulings.len(),
-            l.shares.as_mut_ptr(),
-            l.shares.len(),
-            l.free.as_mut_ptr(),
-            l.free.len(),
-            l.chosen.as_mut_ptr(),
-            l.chosen.len(),
-            l.parents.as_mut_ptr(),
-            l.parents.len(),
-            l.work.as_mut_ptr(),
-            l.work.len(),
-            l.keys.as_mut_ptr(),
-            l.keys.len(),
-        )
-    }
+    raw::lanegravel_tables(
+        xheight,
+        *p,
+        rects,
+        directions,
+        &mut l.members,
+        &mut l.ends,
+        &mut l.numbers,
+        &mut l.bounds,
+        &mut l.rows,
+        &mut l.columns,
+        &mut l.rulings,
+        &mut l.shares,
+        &mut l.free,
+        &mut l.chosen,
+        &mut l.parents,
+        &mut l.work,
+        &mut l.keys,
+    )
 }

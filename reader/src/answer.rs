@@ -2,12 +2,20 @@
 
 use std::fmt::Write;
 
+use lanegravel_binding::Question;
+
 use crate::found::{Evidence, Facts, Finding, Found, Marked, Ruling, Table};
 use crate::rect::Rect;
 
 /// The number of the first question that was missed.
 #[derive(Debug, Clone, Copy, PartialEq)]
 pub struct Refused(pub u32);
+
+impl From<Question> for Refused {
+    fn from(question: Question) -> Self {
+        Refused(question.number())
+    }
+}
 
 /// A refusal, unless the number is 0.
 pub fn accepted(number: u32) -> Result<(), Refused> {

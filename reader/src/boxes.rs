@@ -1,6 +1,6 @@
 //! The calls about boxes: `boxes` and `grids`.
 
-use lanegravel_binding::boxes::{self, Lent, Page};
+use lanegravel_binding::boxes::{self, BoxesLists, Page};
 use lanegravel_binding::grids::{self, GridsLists};
 use lanegravel_binding::sets::members_of;
 
@@ -12,14 +12,14 @@ use crate::rulings::all_sets;
 
 pub fn boxes(fields: Fields, text: &mut Text) -> Result<(), Refused> {
     let room = fields.room("boxes", fields.glyphs.len() / 4);
-    let mut lent = Lent::with_room(room.min(GLYPHS));
+    let mut lent = BoxesLists::with_room(room.min(GLYPHS));
     let page = Page {
         width: fields.levelled.width,
         height: fields.levelled.height,
         dpi: fields.dpi,
         xheight: fields.xheight,
-        ink: fields.ink,
-        glyphs: fields.glyphs,
+        ink: &fields.ink,
+        glyphs: &fields.glyphs,
         params: fields.settings,
     };
     let answer = boxes::boxes(&page, &mut lent);

@@ -11,62 +11,69 @@ use crate::rect::Rect;
 /// more would change no answer.
 pub const MOST_BYTES: usize = PLACES + 1;
 
-fn page(fields: Fields) -> Page {
+fn page(fields: &Fields) -> Page<'_> {
     Page {
         page_width: fields.page.width,
         page_height: fields.page.height,
         width: fields.levelled.width,
         height: fields.levelled.height,
-        gray: fields.gray,
-        shear: fields.shear,
-        shear_x: fields.shear_x,
+        gray: &fields.gray,
+        shear: &fields.shear,
+        shear_x: &fields.shear_x,
     }
 }
 
 pub fn level(fields: Fields, text: &mut Text) -> Result<(), Refused> {
     let room = fields.room("levelled", fields.levelled.places());
     let mut levelled = vec![0; room.min(MOST_BYTES)];
-    accepted(layout::level_gray(&page(fields), &mut levelled))?;
+    accepted(layout::level_gray(&page(&fields), &mut levelled))?;
     text.raster("levelled", &levelled);
     Ok(())
 }
 
 /// Each rectangle in turn; the first one that is refused refuses the text.
-pub fn map(mut fields: Fields, text: &mut Text) -> Result<(), Refused> {
-    let rects = std::mem::take(&mut fields.rects);
-    let page = page(fields);
-    let (rects, _) = rects.as_chunks();
+pub fn map(fields: Fields, text: &mut Text) -> Result<(), Refused> {
+    let page = page(&fields);
+    let (rects, _) = fields.rects.as_chunks();
     for rect in rects {
-        let area = layout::rect_to_page(&page, *rect);
-        accepted(area.number)?;
-        let place = layout::to_page(&page, rect[0], rect[1]);
-        accepted(place.number)?;
-        text.place(place.x, place.y);
-        text.numbers("rect", &[area.x0, area.y0, area.x1, area.y1]);
+        let area = page.rect_to_page(*rect)?;
+        let (x, y) = page.to_page(rect[0], rect[1])?;
+        text.place(x, y);
+        text.numbers("rect", &area);
     }
     Ok(())
 }
 
 /// The way from the levelled picture of an accepted page back to the page.
 #[derive(Debug)]
-pub struct Map(Page);
+pub struct Map {
+    page: Sides,
+    levelled: Sides,
+    shear: Vec<i32>,
+    shear_x: Vec<i32>,
+}
 
 impl Map {
     pub fn new(page: Sides, levelled: Sides, shear: Vec<i32>, shear_x: Vec<i32>) -> Self {
-        Map(Page {
-            page_width: page.width,
-            page_height: page.height,
-            width: levelled.width,
-            height: levelled.height,
-            gray: Vec::new(),
+        Map {
+            page,
+            levelled,
             shear,
             shear_x,
-        })
+        }
     }
 
     /// The rectangle on the page of a levelled rectangle.
     pub fn on_page(&self, rect: Rect) -> Rect {
-        let area = layout::rect_to_page(&self.0, rect);
-        [area.x0, area.y0, area.x1, area.y1]
+        let page = Page {
+            page_width: self.page.width,
+            page_height: self.page.height,
+            width: self.levelled.width,
+            height: self.levelled.height,
+            gray: &[],
+            shear: &self.shear,
+            shear_x: &self.shear_x,
+        };
+        page.rect_to_page(rect).unwrap_or_default()
     }
 }

@@ -1,11 +1,10 @@
 //! A page: everything of it in one call.
 
-use lanegravel_binding::detect::{DetectAnswer, Page, detect};
-use lanegravel_binding::findings::FindingAtAnswer;
-use lanegravel_binding::settings::FusionParams;
-use lanegravel_binding::workspace::{Room, Workspace};
+use lanegravel_binding as library;
+use lanegravel_binding::workspace::Room;
+use lanegravel_binding::{FusionParams, Page, Workspace};
 
-use crate::answer::{Refused, accepted};
+use crate::answer::Refused;
 use crate::fields::Fields;
 use crate::found::{Evidence, Facts, Finding, Found, Grid, Marked, Ruling, Sets, Table};
 use crate::levelling::{MOST_BYTES, Map};
@@ -14,27 +13,26 @@ use crate::limits::{GLYPHS, PIECES};
 /// The library's answer to a page, with the closed sets or without.
 pub fn page(fields: Fields, sets: bool) -> Result<Found, Refused> {
     let mut lent = Workspace::with_room(&room(&fields));
-    let (page, levelled_sides, dpi) = (fields.page, fields.levelled, fields.dpi);
-    let given = given(fields);
-    let answer = detect(&given, &mut lent);
-    accepted(answer.number)?;
-    Ok(Found {
-        page,
-        levelled_sides,
-        dpi,
-        levelled: std::mem::take(&mut lent.levelled),
-        map: Map::new(page, levelled_sides, given.shear, given.shear_x),
-        gray: given.gray,
-        rulings: rulings(&lent, &answer),
-        printed: lent.printed(&answer).to_vec(),
-        faint: lent.faint(&answer).to_vec(),
-        tables: tables(&lent, &answer),
-        free: lent.free(&answer).to_vec(),
-        boxes: boxes(&lent, &answer),
-        grids: grids(&lent, &answer),
-        findings: lent.findings(&answer).map(finding).collect(),
-        sets: sets.then(|| closed_sets(&lent, &answer)),
-    })
+    let found = lent.detect_as_lent(&given(&fields))?;
+    let mut answer = Found {
+        page: fields.page,
+        levelled_sides: fields.levelled,
+        dpi: fields.dpi,
+        levelled: Vec::new(),
+        map: Map::new(fields.page, fields.levelled, fields.shear, fields.shear_x),
+        gray: fields.gray,
+        rulings: found.rulings().map(ruling).collect(),
+        printed: found.printed().to_vec(),
+        faint: found.faint().to_vec(),
+        tables: found.tables().map(table).collect(),
+        free: found.free().to_vec(),
+        boxes: found.boxes().map(marked).collect(),
+        grids: found.grids().map(grid).collect(),
+        findings: found.findings().map(finding).collect(),
+        sets: sets.then(|| closed_sets(found)),
+    };
+    answer.levelled = std::mem::take(&mut lent.levelled);
+    Ok(answer)
 }
 
 /// What is lent, and no more than any accepted page can use.
@@ -52,7 +50,7 @@ fn room(fields: &Fields) -> Room {
     }
 }
 
-fn given(fields: Fields) -> Page {
+fn given(fields: &Fields) -> Page<'_> {
     Page {
         page_width: fields.page.width,
         page_height: fields.page.height,
@@ -65,96 +63,101 @@ fn given(fields: Fields) -> Page {
             llr_clip: fields.llr_clip,
             group_cap: fields.group_cap,
         },
-        gray: fields.gray,
-        ink: fields.ink,
-        shear: fields.shear,
-        shear_x: fields.shear_x,
-        pieces: fields.pieces,
-        glyphs: fields.glyphs,
+        gray: &fields.gray,
+        ink: &fields.ink,
+        shear: &fields.shear,
+        shear_x: &fields.shear_x,
+        pieces: &fields.pieces,
+        glyphs: &fields.glyphs,
     }
 }
 
-fn rulings(lent: &Workspace, answer: &DetectAnswer) -> Vec<Ruling> {
-    let ruling = |r: lanegravel_binding::views::Ruling| Ruling {
+fn ruling(r: library::Ruling) -> Ruling {
+    Ruling {
         rect: r.rect,
-        direction: r.direction,
+        direction: r.direction.number(),
         contrast: r.contrast,
-    };
-    lent.rulings(answer).map(ruling).collect()
+    }
 }
 
-fn tables(lent: &Workspace, answer: &DetectAnswer) -> Vec<Table> {
-    let table = |t: lanegravel_binding::views::Table| Table {
+fn table(t: library::Table) -> Table {
+    Table {
         rect: t.rect,
         rows: t.rows,
         columns: t.columns,
         rulings: t.rulings,
         share: t.share,
-    };
-    lent.tables(answer).map(table).collect()
+    }
 }
 
-fn boxes(lent: &Workspace, answer: &DetectAnswer) -> Vec<Marked> {
-    let marked = |b: lanegravel_binding::views::Marked| Marked {
+fn marked(b: library::AnswerBox) -> Marked {
+    Marked {
         rect: b.rect,
-        mark: b.mark,
+        mark: b.ticked.into(),
         coverage: b.coverage,
-    };
-    lent.boxes(answer).map(marked).collect()
+    }
 }
 
-fn grids(lent: &Workspace, answer: &DetectAnswer) -> Vec<Grid> {
-    let grid = |set| Grid {
-        members: lent.box_set(answer, set).to_vec(),
-        reading: lent.reading_order(answer, set).to_vec(),
-    };
-    lent.grids(answer).map(grid).collect()
+fn grid(g: library::Grid) -> Grid {
+    Grid {
+        members: g.members.to_vec(),
+        reading: g.reading.to_vec(),
+    }
 }
 
 /// A finding with the facts that its kind has.
-fn finding(f: FindingAtAnswer) -> Finding {
-    let facts = match f.kind {
-        16 => Facts::Table {
-            rows: f.a,
-            columns: f.b,
-            rulings: f.c,
+fn finding(f: library::Finding) -> Finding {
+    let facts = match f {
+        library::Finding::Table {
+            rows,
+            columns,
+            rulings,
+            ..
+        } => Facts::Table {
+            rows,
+            columns,
+            rulings,
         },
-        17 => Facts::FreeRules {
-            horizontal: f.a,
-            vertical: f.b,
-            longest: f.c,
+        library::Finding::FreeRules {
+            horizontal,
+            vertical,
+            longest,
+            ..
+        } => Facts::FreeRules {
+            horizontal,
+            vertical,
+            longest,
         },
-        18 => Facts::Grid {
-            boxes: f.a,
-            ticked: f.b,
+        library::Finding::Grid { boxes, ticked, .. } => Facts::Grid { boxes, ticked },
+        library::Finding::Fold {
+            direction, length, ..
+        } => Facts::Fold {
+            direction: direction.number(),
+            length,
         },
-        _ => Facts::Fold {
-            direction: f.a,
-            length: f.length,
-        },
-    };
-    let second = Evidence {
-        value: f.second_value,
-        threshold: f.second_threshold,
-        llr: f.second_llr,
     };
     Finding {
-        rect: [f.x0, f.y0, f.x1, f.y1],
-        log_odds: f.log_odds,
-        first: Evidence {
-            value: f.first_value,
-            threshold: f.first_threshold,
-            llr: f.first_llr,
-        },
-        second: (f.kind != 19).then_some(second),
+        rect: f.rect(),
+        log_odds: f.log_odds(),
+        first: evidence(&f.evidence()[0]),
+        second: f.evidence().get(1).map(evidence),
         facts,
     }
 }
 
-fn closed_sets(lent: &Workspace, answer: &DetectAnswer) -> Sets {
-    let pieces = (0..answer.rulings).map(|set| lent.piece_set(answer, set).to_vec());
-    let printed = (0..answer.printed_sets).map(|set| lent.printed_set(answer, set).to_vec());
-    let boxes = (0..answer.box_sets).map(|set| lent.box_set(answer, set).to_vec());
+fn evidence(e: &library::Evidence) -> Evidence {
+    Evidence {
+        value: e.value,
+        threshold: e.threshold,
+        llr: e.llr,
+    }
+}
+
+fn closed_sets(found: library::Found) -> Sets {
+    let counts = found.counts();
+    let pieces = (0..counts.rulings).map(|set| found.piece_set(set).to_vec());
+    let printed = (0..counts.printed_sets).map(|set| found.printed_set(set).to_vec());
+    let boxes = (0..counts.box_sets).map(|set| found.box_set(set).to_vec());
     Sets {
         pieces: pieces.collect(),
         printed: printed.collect(),

@@ -1,7 +1,7 @@
 //! The calls about rulings, `segments` and `tables`, and `sum`.
 
 use lanegravel_binding::floats;
-use lanegravel_binding::segments::{self, Lent, Page};
+use lanegravel_binding::segments::{self, Page, SegmentsLists};
 use lanegravel_binding::sets::members_of;
 use lanegravel_binding::tables::{self, TablesLists};
 
@@ -13,13 +13,13 @@ use crate::limits::PIECES;
 pub fn segments(fields: Fields, text: &mut Text) -> Result<(), Refused> {
     let pieces = fields.pieces.len() / 4;
     let room = |name| fields.room(name, pieces).min(PIECES);
-    let mut lent = Lent::with_room(room("rulings"), room("index_pieces"));
+    let mut lent = SegmentsLists::with_room(room("rulings"), room("index_pieces"));
     let page = Page {
         width: fields.levelled.width,
         height: fields.levelled.height,
         xheight: fields.xheight,
-        raster: fields.raster,
-        pieces: fields.pieces,
+        raster: &fields.raster,
+        pieces: &fields.pieces,
         params: fields.settings,
     };
     let answer = segments::segments(&page, &mut lent);

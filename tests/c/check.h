@@ -11,6 +11,9 @@
 
 #define PATTERN 0xa5
 
+/* How many lists struct lanegravel_lists has. */
+enum { LISTS = 45 };
+
 #define COUNT(list) (sizeof(list) / sizeof(list)[0])
 #define CHECK(condition) check((condition) != 0, #condition, __FILE__, __LINE__)
 /* The answer stands at the front of the list, and the rest of the list is as it was. */
@@ -33,5 +36,6 @@ void test_boxes(void);
 void test_box_grids(void);
 void test_findings(void);
 void test_detect(void);
+void test_lists_of_a_page(void);
 
 #endif

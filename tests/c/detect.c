@@ -1,9 +1,11 @@
 #include "check.h"
 
+#include <stdlib.h>
+
 enum { PAGE_WIDTH = 43, PAGE_HEIGHT = 40, WIDTH = 44, HEIGHT = 42, DPI = 10 };
 
 /* Eleven pieces and three glyph boxes. */
-enum { N = 11, M = 3, LISTS = 45 };
+enum { N = 11, M = 3 };
 
 /* Every list of another length, at least as long as question 14 asks. */
 struct store {
@@ -101,11 +103,18 @@ static struct lanegravel_detect_answer call(const struct lanegravel_lists *l, ui
                                             size_t pieces_count,
                                             struct lanegravel_fusion_params f) {
     struct given g;
+    struct lanegravel_page page;
     draw(&g);
-    return lanegravel_detect_into(PAGE_WIDTH, PAGE_HEIGHT, WIDTH, HEIGHT, dpi, 4.0, settings(), f,
-                                  g.gray, COUNT(g.gray), g.ink, COUNT(g.ink), g.shear,
-                                  COUNT(g.shear), g.shear_x, COUNT(g.shear_x), pieces,
-                                  pieces_count, glyphs, COUNT(glyphs), l);
+    page.page_width = PAGE_WIDTH, page.page_height = PAGE_HEIGHT;
+    page.width = WIDTH, page.height = HEIGHT;
+    page.dpi = dpi, page.xheight = 4.0, page.params = settings(), page.fusion = f;
+    page.gray = g.gray, page.gray_count = COUNT(g.gray);
+    page.ink = g.ink, page.ink_count = COUNT(g.ink);
+    page.shear = g.shear, page.shear_count = COUNT(g.shear);
+    page.shear_x = g.shear_x, page.shear_x_count = COUNT(g.shear_x);
+    page.pieces = pieces, page.pieces_count = pieces_count;
+    page.glyphs = glyphs, page.glyphs_count = COUNT(glyphs);
+    return lanegravel_detect_into(&page, l);
 }
 
 static void is_empty(struct lanegravel_detect_answer a, uint32_t number) {
@@ -208,30 +217,54 @@ static void test_refused(void) {
     CHECK(kept(&s, sizeof s));
 }
 
-/* Each list in turn an entry shorter than question 14 asks; the lists lie in their struct one behind the
- * other. */
+/* What question 14 asks of each list; they lie in their struct one behind the other. */
+static const size_t asked[LISTS] = {
+    WIDTH * HEIGHT,                                          /* the levelled raster */
+    4 * N, N, N, N, N,                                       /* rulings */
+    4 * N, N, N, N, N, N,                                    /* tables */
+    4 * M, M, M, M,                                          /* boxes */
+    N, N, M, N, N, M, N, M,                                  /* sets */
+    4 * (N + M), N + M, N + M, N + M, N + M,                 /* findings: facts */
+    N + M, N + M, N + M, N + M, N + M, N + M, N + M, N + M,  /* and scores */
+    N, N, N, N, N, M, M, M,                                  /* work */
+};
+
+static char *count_of(struct lanegravel_lists *l, size_t k) {
+    char *list = (char *)l + k * sizeof(struct lanegravel_u32_list);
+    return list + offsetof(struct lanegravel_u32_list, count);
+}
+
+/* Each list in turn an entry shorter. */
 static void test_short(void) {
-    static const size_t asked[LISTS] = {
-        WIDTH * HEIGHT,                                          /* the levelled raster */
-        4 * N, N, N, N, N,                                       /* rulings */
-        4 * N, N, N, N, N, N,                                    /* tables */
-        4 * M, M, M, M,                                          /* boxes */
-        N, N, M, N, N, M, N, M,                                  /* sets */
-        4 * (N + M), N + M, N + M, N + M, N + M,                 /* findings: facts */
-        N + M, N + M, N + M, N + M, N + M, N + M, N + M, N + M,  /* and scores */
-        N, N, N, N, N, M, M, M,                                  /* work */
-    };
     size_t k;
     CHECK(sizeof(struct lanegravel_lists) == LISTS * sizeof(struct lanegravel_u32_list));
     for (k = 0; k < LISTS; k++) {
         struct store s;
         struct lanegravel_lists l = lend(&s);
-        char *list = (char *)&l + k * sizeof(struct lanegravel_u32_list);
         size_t fewer = asked[k] - 1;
-        memcpy(list + offsetof(struct lanegravel_u32_list, count), &fewer, sizeof fewer);
+        memcpy(count_of(&l, k), &fewer, sizeof fewer);
         is_empty(call(&l, DPI, COUNT(pieces), caps()), 14);
         CHECK(kept(&s, sizeof s));
     }
+}
+
+/* Over memory as the header lays the lists, no larger than it says. */
+static void test_laid(void) {
+    size_t size = lanegravel_lists_size(N, M, WIDTH, HEIGHT), k;
+    void *memory = malloc(size);
+    struct lanegravel_lists l = lanegravel_lists_over(memory, N, M, WIDTH, HEIGHT);
+    struct lanegravel_detect_answer a = call(&l, DPI, COUNT(pieces), caps());
+    CHECK(a.number == LANEGRAVEL_ACCEPTED && a.findings == 4);
+    CHECK(l.kinds.entries[0] == LANEGRAVEL_TABLE && l.kinds.entries[1] == LANEGRAVEL_FREE_RULES);
+    CHECK(l.kinds.entries[2] == LANEGRAVEL_GRID && l.kinds.entries[3] == LANEGRAVEL_FOLD);
+    CHECK(lanegravel_finding_in(&l, a.findings, 0).c == 6);
+    CHECK(lanegravel_finding_in(&l, a.findings, 2).second_value == 0.875);
+    CHECK(lanegravel_finding_in(&l, a.findings, 3).length == 4);
+    CHECK(lanegravel_finding_in(&l, a.findings, 4).found == 0);
+    for (k = 0; k < LISTS; k++) {
+        CHECK(memcmp(count_of(&l, k), &asked[k], sizeof asked[k]) == 0);
+    }
+    free(memory);
 }
 
 /* A page of one pixel, without pieces and glyph boxes, over lists that are not there. */
@@ -259,6 +292,7 @@ void test_detect(void) {
     test_accepted();
     test_refused();
     test_short();
+    test_laid();
     test_nothing(1, 0);
     test_nothing(0, 14);
 }

@@ -42,6 +42,7 @@ int main(void) {
     test_box_grids();
     test_findings();
     test_detect();
+    test_lists_of_a_page();
     printf("%d checks, %d failed\n", checks, failures);
     return failures != 0;
 }

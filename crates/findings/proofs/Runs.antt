@@ -23,8 +23,8 @@ pub cut-long : {n m : ℕ} (l : List ℕ) → length l ≡ m → n ≤ m → n �
 cut-long {n} l e h = let t = length-take n l in omega arith
 
 -- the part that was written from the front
-front : (xs l : List ℕ) {n : ℕ} {l′ : List ℕ} → l′ ≡ written xs l → n ≡ length xs → take n l′ ≡ xs
-front xs l e f = ap₂ take f e ∙ take-append-seam xs (drop (length xs) l)
+pub front-part : (xs l : List ℕ) {n : ℕ} {l′ : List ℕ} → l′ ≡ written xs l → n ≡ length xs → take n l′ ≡ xs
+front-part xs l e f = ap₂ take f e ∙ take-append-seam xs (drop (length xs) l)
 
 module _ (sides : Sides) (shear shear-x : List ℤ) (p : RulingsParams) (bounds rects places folds boxes : List ℕ) (set : ℕ → List ℕ) (numbers : List ℕ) where
   pub first-long : length (firstKeys sides shear shear-x p bounds rects places folds) ≡ count bounds + freeCount p places + length folds
@@ -65,6 +65,6 @@ module _ (sides : Sides) (shear shear-x : List ℤ) (p : RulingsParams) (bounds 
           → Ranked (take (count bounds + r + length folds) ks) (take (length numbers) gs) ra rb → AllRanked sides shear shear-x p bounds rects places folds boxes set numbers ra rb r
       all-ranked {gs} {ra} {rb} g Q =
           let G = gridKeys sides shear shear-x boxes set numbers in
-          let e = front (firstKeys sides shear shear-x p bounds rects places folds) keys (K .list) run-long in
-          let f = front G grid-keys (g ∙ written-run G [] grid-keys (omega (arith, second-long, R .grid-keys-long))) (sym second-long) in
+          let e = front-part (firstKeys sides shear shear-x p bounds rects places folds) keys (K .list) run-long in
+          let f = front-part G grid-keys (g ∙ written-run G [] grid-keys (omega (arith, second-long, R .grid-keys-long))) (sym second-long) in
           record { rules = K .rules; ranked = subst (λ (ys : List ℕ). Ranked (firstKeys sides shear shear-x p bounds rects places folds) ys ra rb) f (subst (λ (xs : List ℕ). Ranked xs (take (length numbers) gs) ra rb) e Q) }

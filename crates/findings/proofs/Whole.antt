@@ -1,4 +1,4 @@
--- A page's findings: what the two runs need is given, and the parts that are lent on are the places of the free rulings and of the folds.
+-- A page's findings: what the two runs need is given of the free rulings and of the folds, and how many there are.
 use mathlib.Core.Path.{_≡_, sym, ap, ap₂, subst, _∙_}
 use mathlib.Core.Bool.{Bool}
 use mathlib.Core.List.{List, _++_}
@@ -6,24 +6,20 @@ use Prim.Native.Nat.{ℕ, _+_, _≤_, _<_}
 use native.Mathlib.Omega.{arith}
 use lib.IntN.{ℤ}
 use lib.Ieee.{Float}
-use lib.ListN.{length, getD, take, drop, length-append, length-map}
-use lib.Seq.{take-append-seam}
-use Rattle.lists.specs.Lists.{In, keep, written}
+use lib.ListN.{length, getD, length-append, length-map}
+use Rattle.lists.specs.Lists.{In, keep}
 use Rattle.lists.proofs.Keep.{at-in, in-at, kept-in, getD-map}
 use Rattle.lists.proofs.Sizes.{keep-size-le}
 use Rattle.rects.specs.Rects.{count}
 use Rattle.layout.specs.declared.sides.Sides.{Sides}
-use Rattle.layout.specs.Tables.{Sheared}
 use Rattle.params.specs.declared.settings.RulingsParams.{RulingsParams}
-use Rattle.evidence.specs.Kinds.{isFold}
 use Rattle.finding_lists.specs.Columns.{Columns}
 use Rattle.finding_lists.specs.Steps.{Roomy}
 use Rattle.findings.specs.Keys.{firstKeys, gridKeys, keyOf}
-use Rattle.findings.specs.Made.{Scan, Rulings, Tables, Boxes, foldInches, folds, freePlaces, freeCount, firstFindings, gridFindings}
-use Rattle.findings.specs.Steps.{NumbersGiven, AllGiven, RectsGiven, AllRanked, WriteRoom, ArrangeRoom, Arranged, Front, PageFound}
+use Rattle.findings.specs.Made.{Scan, Rulings, Tables, Boxes, folds, freePlaces, freeCount, firstFindings, gridFindings}
+use Rattle.findings.specs.Steps.{NumbersGiven, AllGiven, RectsGiven, AllRanked, WriteRoom, ArrangeRoom}
 use Rattle.findings.proofs.Runs.{first-long, second-long}
 use Rattle.findings.proofs.Writes.{first-keys-are, grid-keys-are}
-use Rattle.findings.proofs.Demand.{findings-paired}
 
 -- ---- what is given of some places is given of places among them
 
@@ -94,44 +90,6 @@ number-is s dpi t r places fs b e =
     let h = length-append (firstFindings s dpi t r places fs) (gridFindings s b) in
     omega arith
 
--- the part that was written from the front
-pub front-part : (xs l : List ℕ) {n : ℕ} {l′ : List ℕ} → l′ ≡ written xs l → n ≡ length xs → take n l′ ≡ xs
-front-part xs l e f = ap₂ take f e ∙ take-append-seam xs (drop (length xs) l)
-
 -- those that are kept are no more than all
 pub kept-few : (q : ℕ → Bool) (xs : List ℕ) {n m : ℕ} → n ≡ length (keep q xs) → length xs ≤ m → n ≤ m
 kept-few q xs e h = let l = keep-size-le q xs in omega arith
-
--- ---- the parts that are lent on are those places
-
-module _ (s : Scan) (dpi : ℕ) (r : Rulings) (printed faint : List ℕ) (t : Tables) (free : List ℕ) (b : Boxes) where
-  -- of the settings, which rulings are folds
-  abbrev folded : List ℕ
-  folded = folds (s .settings) dpi (r .rects) (r .directions) faint
-
-  module _ (places : List ℕ) {places′ fs fs′ : List ℕ} {m : ℕ} (P : places′ ≡ written (freePlaces printed free) places) (F : Front folded fs fs′ m) where
-    free-part : take (length free) places′ ≡ freePlaces printed free
-    free-part = front-part (freePlaces printed free) places P (sym (length-map free (λ i. getD printed i 0)))
-
-    fold-part : take m fs′ ≡ folded
-    fold-part = front-part folded fs (F .list) (F .count)
-
-    pub free-part-given : {w h : ℕ} → NumbersGiven printed free → AllGiven w h (r .rects) (r .directions) (r .contrasts) printed
-        → AllGiven w h (r .rects) (r .directions) (r .contrasts) (take (length free) places′)
-    free-part-given {w} {h} N A = subst (AllGiven w h (r .rects) (r .directions) (r .contrasts)) (sym free-part) (free-given printed free N A)
-
-    pub fold-part-given : {w h : ℕ} → AllGiven w h (r .rects) (r .directions) (r .contrasts) faint → AllGiven w h (r .rects) (r .directions) (r .contrasts) (take m fs′)
-    fold-part-given {w} {h} A =
-        subst (AllGiven w h (r .rects) (r .directions) (r .contrasts)) (sym fold-part) (kept-given (λ k. isFold (s .settings) (foldInches dpi (r .rects) (r .directions) k)) faint A)
-
-    pub part-room : {keys grid-keys order grid-order ranks grid-ranks : List ℕ} {l : Columns}
-        → ArrangeRoom (s .settings) (t .bounds) (freePlaces printed free) folded (b .grids) keys grid-keys order grid-order ranks grid-ranks l
-        → ArrangeRoom (s .settings) (t .bounds) (take (length free) places′) (take m fs′) (b .grids) keys grid-keys order grid-order ranks grid-ranks l
-    part-room {keys} {grid-keys} {order} {grid-order} {ranks} {grid-ranks} {l} R =
-        subst (λ (x : List ℕ). ArrangeRoom (s .settings) (t .bounds) x (take m fs′) (b .grids) keys grid-keys order grid-order ranks grid-ranks l) (sym free-part)
-        (subst (λ (y : List ℕ). ArrangeRoom (s .settings) (t .bounds) (freePlaces printed free) y (b .grids) keys grid-keys order grid-order ranks grid-ranks l) (sym fold-part) R)
-
-    pub page-found : {l l′ : Columns} {n : ℕ} {finite : Bool} → Sheared (s .sides) (s .shear) (s .shear-x) → Arranged s dpi t r (take (length free) places′) (take m fs′) b l l′ n finite → PageFound s dpi r printed faint t free b l l′ n finite
-    page-found {l} {l′} {n} {finite} S A =
-        let C = subst (λ (y : List ℕ). Arranged s dpi t r (freePlaces printed free) y b l l′ n finite) fold-part (subst (λ (x : List ℕ). Arranged s dpi t r x (take m fs′) b l l′ n finite) free-part A) in
-        record { found = C .found; number = C .number; paired = findings-paired s dpi r printed faint t free b S }

@@ -1,7 +1,7 @@
 -- What the functions of `findings` ask and leave; none of it is needed to read what a page's findings are.
 use mathlib.Core.Path.{_≡_}
 use mathlib.Core.Bool.{Bool}
-use mathlib.Core.List.{List, _++_, map}
+use mathlib.Core.List.{List, map}
 use Prim.Native.Nat.{ℕ, _*_, _+_, _^_, _≤_, _<_}
 use lib.IntN.{ℤ}
 use lib.Ieee.{Float}
@@ -19,7 +19,7 @@ use Rattle.evidence.specs.declared.finding.Finding.{Finding}
 use Rattle.evidence.specs.Finding.{rowOf}
 use Rattle.finding_lists.specs.Columns.{Columns, AllWritten}
 use Rattle.finding_lists.specs.Steps.{Roomy}
-use Rattle.findings.specs.Made.{Scan, Rulings, Tables, Boxes, freePlaces, freeCount, folds, firstFindings, gridFindings, made, everyFinite}
+use Rattle.findings.specs.Made.{Scan, Rulings, Tables, Boxes, freePlaces, freeCount, folds, made, everyFinite}
 use Rattle.findings.specs.Keys.{firstKeys, gridKeys, inOrder}
 use Rattle.findings.specs.Pairing.{FindingsPaired}
 
@@ -123,11 +123,6 @@ pub record AllFound (fs : List Finding) (l l′ : Columns) (finite : Bool) : Typ
 pub record ArrangeRoom (p : RulingsParams) (bounds places fs numbers keys grid-keys order grid-order ranks grid-ranks : List ℕ) (l : Columns) : Type 0 where
   pub ranking : RankRoom p bounds places fs numbers keys grid-keys order grid-order ranks grid-ranks
   pub room : Roomy (count bounds + freeCount p places + length fs + length numbers) l
-
--- What the core leaves, given the places of the free rulings and of the folds: the findings in order, how many there are, and whether each is finite.
-pub record Arranged (s : Scan) (dpi : ℕ) (t : Tables) (r : Rulings) (places fs : List ℕ) (b : Boxes) (l l′ : Columns) (n : ℕ) (finite : Bool) : Type 0 where
-  pub found : AllFound (firstFindings s dpi t r places fs ++ gridFindings s b) l l′ finite
-  pub number : n ≡ length (firstFindings s dpi t r places fs ++ gridFindings s b)
 
 -- Every list of the core has room: one entry a free ruling and a faint one, and what both runs need.
 pub record FindRoom (p : RulingsParams) (dpi : ℕ) (rects directions printed faint bounds free numbers places fs keys grid-keys order grid-order ranks grid-ranks : List ℕ) (l : Columns) : Type 0 where

@@ -1,14 +1,7 @@
 // The members of one set of a listing (crate `sets`).
-ghost use Rattle.lanegravel.specs.MembersOf.{PartOf};
+ghost use Rattle.answers.specs.MembersOf.{PartOf};
+use answers::members_of::MembersOfAnswer;
 
-// A part of the member list: where it starts, and how many entries it has.
-#[repr(C)]
-pub struct MembersOfAnswer {
-    pub start: usize,
-    pub count: usize,
-}
-
-// A C function can't return a slice, so the part is given by its bounds.
 #[no_mangle]
 pub extern "C" fn lanegravel_members_of(
     members: &[u32],
@@ -18,19 +11,5 @@ pub extern "C" fn lanegravel_members_of(
 ) -> MembersOfAnswer
     ensures { λ r. ⌜ PartOf (now (members .entry)) (now (ends .entry)) count set r ⌝ }
 {
-    let part = sets::members_of(members, ends, count, set);
-    let size = part.len();
-    if size == 0 {
-        return MembersOfAnswer { start: 0, count: 0 };
-    }
-    if set == 0 {
-        return MembersOfAnswer {
-            start: 0,
-            count: size,
-        };
-    }
-    MembersOfAnswer {
-        start: ends[set - 1] as usize,
-        count: size,
-    }
+    answers::members_of::members_of(members, ends, count, set)
 }

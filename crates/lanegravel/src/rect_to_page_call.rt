@@ -1,19 +1,7 @@
 // A levelled rectangle back to the page (crate `layout`); pw and ph are the page's sides, w and h the
 // levelled picture's.
-ghost use Rattle.lanegravel.specs.Mapped.{AreaMapped};
-use layout::calls::MappedRect;
-use layout::sides::Sides;
-use rects::Rect;
-
-// The number of the first missed question, and the page rectangle, all 0 on refusal.
-#[repr(C)]
-pub struct RectToPageAnswer {
-    pub number: u32,
-    pub x0: u32,
-    pub y0: u32,
-    pub x1: u32,
-    pub y1: u32,
-}
+ghost use Rattle.answers.specs.Mapped.{AreaMapped};
+use answers::rect_to_page::RectToPageAnswer;
 
 #[no_mangle]
 pub extern "C" fn lanegravel_rect_to_page(
@@ -30,23 +18,5 @@ pub extern "C" fn lanegravel_rect_to_page(
 ) -> RectToPageAnswer
     ensures { λ r. ⌜ AreaMapped (record { pw = pw; ph = ph; w = w; h = h }) (now (shear .entry)) (now («shear_x» .entry)) (record { x0 = x0; y0 = y0; x1 = x1; y1 = y1 }) r ⌝ }
 {
-    let sides = Sides { pw, ph, w, h };
-    let r = Rect { x0, y0, x1, y1 };
-    let answer = layout::calls::rect_to_page(sides, shear, shear_x, r);
-    match answer {
-        MappedRect::Area(p) => RectToPageAnswer {
-            number: 0,
-            x0: p.x0,
-            y0: p.y0,
-            x1: p.x1,
-            y1: p.y1,
-        },
-        MappedRect::RefusedArea(number) => RectToPageAnswer {
-            number,
-            x0: 0,
-            y0: 0,
-            x1: 0,
-            y1: 0,
-        },
-    }
+    answers::rect_to_page::rect_to_page(pw, ph, w, h, shear, shear_x, x0, y0, x1, y1)
 }

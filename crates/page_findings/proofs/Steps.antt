@@ -23,7 +23,7 @@ use Rattle.findings.specs.Steps.{Mapping, NumbersGiven, PlacesGiven, AllGiven, 
 use Rattle.findings.proofs.OnPage.{placed-most}
 use Rattle.findings.proofs.Given.{grid-rects-given}
 use Rattle.findings.proofs.Runs as Runs
-use Rattle.findings.proofs.Whole.{rects-of, free-given, kept-given, write-room, number-is, front-part, kept-few}
+use Rattle.findings.proofs.Whole.{rects-of, free-given, kept-given, write-room, number-is, kept-few}
 use Rattle.findings.proofs.Writes as Writes
 use Rattle.findings.proofs.Demand.{findings-paired}
 use Rattle.finding_stages.specs.Steps.{FaintLong, FirstLong, TablesLong, RulesLong, BoxesLong}
@@ -77,10 +77,10 @@ module _ (n : Counts) (s : Sources) (sides : Sides) (shear shear-x : List ℤ) (
 
   module _ {pl fo : List ℕ} {m : ℕ} (P : pl ≡ written freed (w .places)) (F : Front folded (w .folds) fo m) where
     pub place-front : {x : List ℕ} → x ≡ pl → take (n .free) x ≡ freed
-    place-front e = ap (take (n .free)) e ∙ front-part freed (w .places) P free-long
+    place-front e = ap (take (n .free)) e ∙ Runs.front-part freed (w .places) P free-long
 
     pub fold-front : {x : List ℕ} → x ≡ fo → take m x ≡ folded
-    fold-front e = ap (take m) e ∙ front-part folded (w .folds) (F .list) (F .count)
+    fold-front e = ap (take m) e ∙ Runs.front-part folded (w .folds) (F .list) (F .count)
 
     -- the lists still hold the places
     pub places-fit : {x : List ℕ} → x ≡ pl → length pl ≡ length (w .places) → n .free ≤ length x

@@ -3,11 +3,16 @@ ghost use mathlib.Core.List.{map};
 ghost use Rattle.page.specs.Lent.{listAt};
 ghost use Rattle.stages.specs.Bundles.{Kept};
 ghost use Rattle.page_findings.specs.Sources.{Ready, Left};
-use findings::core::Found;
 use layout::sides::Sides;
 use page::counts::Counts;
 use params::settings::FusionParams;
 use params::settings::RulingsParams;
+
+// How many findings there are, and whether every evidence number is finite.
+pub struct Found {
+    pub count: usize,
+    pub finite: bool,
+}
 
 // The work lists hold the places of the free rulings and of the folds, keys, orders and ranks.
 pub fn find(

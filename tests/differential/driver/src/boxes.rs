@@ -1,10 +1,11 @@
 //! Glyph boxes to boxes: `boxes`, against the unchanged Rust to the bit. Masks are small and of many
 //! kinds; every fourth one misses a question or several.
 
-use lanegravel_binding::boxes::{self as ffi, Lent, Page};
+use lanegravel_binding::boxes::{self as ffi, BoxesLists};
 use pagetriage::pixel::rulings;
 
 use crate::masks;
+use crate::owned::GlyphsPage;
 use crate::params;
 use crate::questions;
 use crate::random::Random;
@@ -42,10 +43,10 @@ pub fn forms(random: &mut Random, count: u64) -> Tally {
     tally
 }
 
-fn compare(random: &mut Random, tally: &mut Tally, page: &Page) {
+fn compare(random: &mut Random, tally: &mut Tally, page: &GlyphsPage) {
     let lent = lend(random, page);
     let mut found = lent.clone();
-    let answer = ffi::boxes(page, &mut found);
+    let answer = ffi::boxes(&page.given(), &mut found);
     let number = question(page, &lent);
     let (count, written) = if number == 0 {
         accepted(page, &lent)
@@ -60,7 +61,7 @@ fn compare(random: &mut Random, tally: &mut Tally, page: &Page) {
 }
 
 /// The number, the count and every lent place.
-fn words(number: u32, count: usize, lent: &Lent) -> Vec<u64> {
+fn words(number: u32, count: usize, lent: &BoxesLists) -> Vec<u64> {
     let mut words = vec![u64::from(number), count as u64];
     words.extend(lent.rects.iter().chain(&lent.marks).map(|&x| u64::from(x)));
     words.extend(lent.coverages.iter().map(|&x| bits(x)));
@@ -68,7 +69,7 @@ fn words(number: u32, count: usize, lent: &Lent) -> Vec<u64> {
 }
 
 /// What an accepted page answers: the Rust's boxes.
-pub fn accepted(page: &Page, lent: &Lent) -> (usize, Lent) {
+pub fn accepted(page: &GlyphsPage, lent: &BoxesLists) -> (usize, BoxesLists) {
     let layout = with_glyphs(page);
     let boxes = rulings::boxes(&layout, page.dpi, &params::rust(&page.params));
     let mut written = lent.clone();
@@ -82,7 +83,7 @@ pub fn accepted(page: &Page, lent: &Lent) -> (usize, Lent) {
 }
 
 /// Lists with room and sometimes more, filled with a pattern; now and then one entry short.
-fn lend(random: &mut Random, page: &Page) -> Lent {
+fn lend(random: &mut Random, page: &GlyphsPage) -> BoxesLists {
     let n = page.glyphs.len() / 4;
     let short = random.below(60);
     let mut room = |list: u64, n: usize| {
@@ -94,7 +95,7 @@ fn lend(random: &mut Random, page: &Page) -> Lent {
     };
     let sizes = [room(0, 4 * n), room(1, n), room(2, n)];
     let mut words = |n: usize| (0..n).map(|_| random.bits() as u32).collect::<Vec<u32>>();
-    Lent {
+    BoxesLists {
         rects: words(sizes[0]),
         marks: words(sizes[1]),
         coverages: words(sizes[2]).into_iter().map(f64::from).collect(),
@@ -102,7 +103,7 @@ fn lend(random: &mut Random, page: &Page) -> Lent {
 }
 
 /// The number of the first missed question of document 01, said here in plain Rust.
-pub fn question(page: &Page, lent: &Lent) -> u32 {
+pub fn question(page: &GlyphsPage, lent: &BoxesLists) -> u32 {
     let n = page.glyphs.len() / 4;
     let places = page.width as u128 * page.height as u128;
     let room = lent.rects.len() >= 4 * n && lent.marks.len() >= n && lent.coverages.len() >= n;
@@ -119,7 +120,7 @@ pub fn question(page: &Page, lent: &Lent) -> u32 {
 }
 
 /// One change that may miss a question.
-pub fn spoil(random: &mut Random, page: &mut Page) {
+pub fn spoil(random: &mut Random, page: &mut GlyphsPage) {
     match random.below(14) {
         0 => page.width = questions::bad_side(random),
         1 => page.height = questions::bad_side(random),

@@ -2,10 +2,12 @@
 //! `sigmoid` is given. What `detect_with` keeps to itself (rulings, tables, boxes, grids) comes from the
 //! Rust's functions under it, and the closed sets from a flood fill. Every lent place is compared.
 
-use lanegravel_binding::detect::{self as ffi, DetectAnswer, Page};
-use lanegravel_binding::workspace::{ANSWER_LISTS, LISTS, List, Workspace};
+use lanegravel_binding::Workspace;
+use lanegravel_binding::detect::{self as ffi, DetectAnswer};
+use lanegravel_binding::testing::{ANSWER_LISTS, LISTS, List, Lists};
 
 use crate::forms;
+use crate::owned::WholePage;
 use crate::pages;
 use crate::random::Random;
 use crate::refusals::{self, MISSES, question, room_met, workspace};
@@ -97,7 +99,7 @@ fn rooms(random: &mut Random, tally: &mut Tally) {
 }
 
 /// Lists with room and sometimes more, full of noise. The levelled raster has exactly its room.
-fn lend(random: &mut Random, page: &Page) -> Workspace {
+fn lend(random: &mut Random, page: &WholePage) -> Workspace {
     let mut lent = workspace(page);
     for list in lent.lists().iter_mut().skip(1) {
         list.resize(list.count() + random.below(3) as usize);
@@ -107,15 +109,15 @@ fn lend(random: &mut Random, page: &Page) -> Workspace {
 }
 
 /// One list an entry short of what question 14 asks.
-fn shorten(page: &Page, lent: &mut Workspace, list: usize) {
+fn shorten(page: &WholePage, lent: &mut Workspace, list: usize) {
     let asked = workspace(page).lists()[list].count();
     lent.lists()[list].resize(asked.saturating_sub(1));
 }
 
-fn compare(random: &mut Random, tally: &mut Tally, page: &Page, mut before: Workspace) {
+fn compare(random: &mut Random, tally: &mut Tally, page: &WholePage, mut before: Workspace) {
     let number = question(page, room_met(page, &mut before));
     let mut after = before.clone();
-    let answer = ffi::detect(page, &mut after);
+    let answer = ffi::detect(&page.given(), &mut after);
     let (expected, mut written) = match number {
         0 => wanted(page, &before),
         _ => (refused(number), before.clone()),
@@ -129,8 +131,8 @@ fn compare(random: &mut Random, tally: &mut Tally, page: &Page, mut before: Work
     difference(&mut written, &mut after, compared, &mut rust, &mut library);
     if expected.number == 0 {
         // other noise in the work lists changes nothing
-        before.fill_work(random.bits());
-        let again = ffi::detect(page, &mut before);
+        before.work.fill(random.bits());
+        let again = ffi::detect(&page.given(), &mut before);
         rust.extend(words(&answer));
         library.extend(words(&again));
         difference(&mut after, &mut before, compared, &mut rust, &mut library);

@@ -1,17 +1,16 @@
 //! Questionnaires: tables with broken rules, loose rules, faint folds, rows of letters and answer
 //! boxes, on grey paper that was scanned a little askew.
 
-use lanegravel_binding::detect::Page;
 use lanegravel_binding::settings::RulingsParams;
-use lanegravel_binding::{boxes, segments};
 
 use crate::masks;
+use crate::owned::{GlyphsPage, PiecesPage, WholePage};
 use crate::pages::composed;
 use crate::params::VALID;
 use crate::random::Random;
 
 /// A form at so many dots an inch, up to half a degree askew.
-pub fn form(random: &mut Random, page_width: usize, page_height: usize, dpi: u16) -> Page {
+pub fn form(random: &mut Random, page_width: usize, page_height: usize, dpi: u16) -> WholePage {
     let slope = (random.below(41) as f64 - 20.0) / 2_000.0;
     askew(random, page_width, page_height, dpi, slope)
 }
@@ -23,7 +22,7 @@ pub fn askew(
     page_height: usize,
     dpi: u16,
     slope: f64,
-) -> Page {
+) -> WholePage {
     let (shear, shear_x) = tables(page_width, page_height, slope);
     let widest = |table: &[i32]| table.iter().copied().max().unwrap_or(0) as usize;
     let (width, height) = (page_width + widest(&shear_x), page_height + widest(&shear));
@@ -38,7 +37,7 @@ pub fn askew(
         merge_gap_xh: 1.0,
         ..marks.params
     };
-    let mut rules = segments::Page {
+    let mut rules = PiecesPage {
         width,
         height,
         xheight: marks.xheight,
@@ -73,7 +72,7 @@ pub fn tables(width: usize, height: usize, slope: f64) -> (Vec<i32>, Vec<i32>) {
 }
 
 /// Two or three tables below each other, then loose rules and folds.
-fn draw_rules(random: &mut Random, page: &mut segments::Page, width: u32, height: u32) {
+fn draw_rules(random: &mut Random, page: &mut PiecesPage, width: u32, height: u32) {
     let (left, right) = (width / 12, width - width / 12);
     let tables = 2 + random.below(2) as u32;
     let each = height / 2 / tables;
@@ -104,7 +103,7 @@ fn draw_rules(random: &mut Random, page: &mut segments::Page, width: u32, height
 /// then, of about this grey.
 fn rule(
     random: &mut Random,
-    page: &mut segments::Page,
+    page: &mut PiecesPage,
     from: u32,
     to: u32,
     at: u32,
@@ -134,9 +133,9 @@ fn rule(
 }
 
 /// A small page with all four kinds of findings, in a picture that is wider and higher than the page.
-pub fn sample() -> Page {
+pub fn sample() -> WholePage {
     let (width, height) = (44, 42);
-    let mut rules = segments::Page {
+    let mut rules = PiecesPage {
         width,
         height,
         xheight: 4.0,
@@ -166,7 +165,7 @@ pub fn sample() -> Page {
 }
 
 /// Three boxes in a row from right to left, the middle one ticked.
-fn squares(width: usize, height: usize) -> boxes::Page {
+fn squares(width: usize, height: usize) -> GlyphsPage {
     let mut page = masks::blank(width, height);
     page.dpi = 10;
     page.params.box_min_in = 0.0;

@@ -2,7 +2,7 @@
 //! closed sets are held against a flood fill, and the reading order against a plain sort. Refused
 //! calls must leave every list as it was.
 
-use lanegravel_binding::boxes::Lent;
+use lanegravel_binding::boxes::BoxesLists;
 use lanegravel_binding::grids::{self as ffi, GridsLists};
 use pagetriage::pixel::rulings::{self, CheckBox};
 
@@ -49,7 +49,7 @@ pub fn forms(random: &mut Random, count: u64) -> Tally {
     for _ in 0..count {
         let form = masks::form(random, 1_240, 1_754, 700);
         let room = form.glyphs.len() / 4;
-        let (n, found) = boxes::accepted(&form, &Lent::with_room(room));
+        let (n, found) = boxes::accepted(&form, &BoxesLists::with_room(room));
         let page = Page {
             xheight: form.xheight,
             p: form.params,

@@ -1,9 +1,10 @@
 //! Levelling and the way back to the page: `level_gray`, `to_page`, `rect_to_page`. Pages are small,
 //! their shear tables at and around the limits, and every other page misses a question or several.
 
-use lanegravel_binding::layout::{self as ffi, Page};
+use lanegravel_binding::layout as ffi;
 use pagetriage::pixel::layout::Rect;
 
+use crate::owned::LayoutPage;
 use crate::questions::{self, LARGEST_SIDE};
 use crate::random::Random;
 use crate::rust_layout::layout;
@@ -28,7 +29,7 @@ pub fn level_gray(random: &mut Random, count: u64) -> Tally {
             lent.clone()
         };
         let mut out = lent;
-        let answer = ffi::level_gray(&page, &mut out);
+        let answer = ffi::level_gray(&page.given(), &mut out);
         tally.compare(&words(number, &expected), &words(answer, &out), || {
             format!("{page:?} room {room}")
         });
@@ -49,7 +50,7 @@ pub fn to_page(random: &mut Random, count: u64) -> Tally {
             }
             number => [number.into(), 0, 0],
         };
-        let mapped = ffi::to_page(&page, x, y);
+        let mapped = ffi::to_page(&page.given(), x, y);
         let found = [mapped.number.into(), mapped.x as u64, mapped.y as u64];
         tally.compare(&expected, &found, || format!("{page:?} place {x} {y}"));
     }
@@ -70,7 +71,7 @@ pub fn rect_to_page(random: &mut Random, count: u64) -> Tally {
             }
             number => [number.into(), 0, 0, 0, 0],
         };
-        let m = ffi::rect_to_page(&page, [x0, y0, x1, y1]);
+        let m = ffi::rect_to_page(&page.given(), [x0, y0, x1, y1]);
         let found = [m.number, m.x0, m.y0, m.x1, m.y1].map(u64::from);
         tally.compare(&expected, &found, || {
             format!("{page:?} rectangle {x0} {y0} {x1} {y1}")
@@ -80,7 +81,7 @@ pub fn rect_to_page(random: &mut Random, count: u64) -> Tally {
 }
 
 /// The number of the first missed question of document 01, said here in plain Rust.
-pub fn level_question(page: &Page, room: usize) -> u32 {
+pub fn level_question(page: &LayoutPage, room: usize) -> u32 {
     let grey = page.gray.len() as u128 == page.page_width as u128 * page.page_height as u128;
     match tables_question(page, grey) {
         0 if room as u128 != page.width as u128 * page.height as u128 => 14,
@@ -88,7 +89,7 @@ pub fn level_question(page: &Page, room: usize) -> u32 {
     }
 }
 
-pub fn map_question(page: &Page, [x0, y0, x1, y1]: [u32; 4]) -> u32 {
+pub fn map_question(page: &LayoutPage, [x0, y0, x1, y1]: [u32; 4]) -> u32 {
     let inside = (x1 as usize) < page.width && (y1 as usize) < page.height;
     match tables_question(page, true) {
         0 if !(x0 <= x1 && y0 <= y1 && inside) => 6,
@@ -97,7 +98,7 @@ pub fn map_question(page: &Page, [x0, y0, x1, y1]: [u32; 4]) -> u32 {
 }
 
 /// Questions 1, 3 and 4; `grey` says whether what else question 3 asks holds.
-fn tables_question(page: &Page, grey: bool) -> u32 {
+fn tables_question(page: &LayoutPage, grey: bool) -> u32 {
     let sides = [page.page_width, page.page_height, page.width, page.height];
     if !sides.iter().all(|n| (1..=LARGEST_SIDE).contains(n))
         || page.page_width > page.width
@@ -119,7 +120,7 @@ fn tables_question(page: &Page, grey: bool) -> u32 {
 }
 
 /// Every other page is one that all questions accept; each of the others is spoilt up to three times.
-pub fn page(random: &mut Random, case: u64) -> Page {
+pub fn page(random: &mut Random, case: u64) -> LayoutPage {
     let mut page = accepted(random, case % 5_000 == 4_999);
     if case % 2 == 1 {
         for _ in 0..=random.below(3) {
@@ -130,7 +131,7 @@ pub fn page(random: &mut Random, case: u64) -> Page {
 }
 
 /// A page that every question accepts; a long one has a side of 8,192.
-fn accepted(random: &mut Random, long: bool) -> Page {
+fn accepted(random: &mut Random, long: bool) -> LayoutPage {
     let (mut page_width, mut page_height) = (side(random), side(random));
     let (mut down, mut across) = (random.below(6) as usize, random.below(6) as usize);
     if long && random.below(2) == 0 {
@@ -142,7 +143,7 @@ fn accepted(random: &mut Random, long: bool) -> Page {
         (down, across) = (0, 0);
     }
     let (width, height) = (page_width + across, page_height + down);
-    Page {
+    LayoutPage {
         page_width,
         page_height,
         width,
@@ -176,7 +177,7 @@ pub fn table(random: &mut Random, length: usize, limit: usize) -> Vec<i32> {
 }
 
 /// One change that may miss a question: a side, a length, an entry.
-fn spoil(random: &mut Random, page: &mut Page) {
+fn spoil(random: &mut Random, page: &mut LayoutPage) {
     let (down, across) = (
         page.height.saturating_sub(page.page_height) as i32,
         page.width.saturating_sub(page.page_width) as i32,
@@ -192,7 +193,7 @@ fn spoil(random: &mut Random, page: &mut Page) {
     }
 }
 
-fn pick_side<'a>(random: &mut Random, page: &'a mut Page) -> &'a mut usize {
+fn pick_side<'a>(random: &mut Random, page: &'a mut LayoutPage) -> &'a mut usize {
     let side = match random.below(4) {
         0 => &mut page.page_width,
         1 => &mut page.page_height,
@@ -237,7 +238,7 @@ pub fn along(random: &mut Random, side: usize) -> u32 {
     }
 }
 
-pub fn rectangle(random: &mut Random, page: &Page) -> [u32; 4] {
+pub fn rectangle(random: &mut Random, page: &LayoutPage) -> [u32; 4] {
     let (a, b) = (along(random, page.width), along(random, page.width));
     let (c, d) = (along(random, page.height), along(random, page.height));
     match random.below(12) {

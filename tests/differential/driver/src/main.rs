@@ -14,7 +14,7 @@ use differential::random::Random;
 use differential::tally::Tally;
 use differential::{
     boxes, detect, findings, floats, grids, grouping, layout, params, replay, replay_detect,
-    segments, tables,
+    reused, segments, tables,
 };
 
 /// One call of the library, with the number of random cases that it is tried on.
@@ -144,6 +144,11 @@ const COMPARISONS: &[Comparison] = &[
         name: "detect on forms",
         count: 500,
         run: detect::on_forms,
+    },
+    Comparison {
+        name: "detect over one workspace",
+        count: 100_000,
+        run: reused::reused,
     },
 ];
 

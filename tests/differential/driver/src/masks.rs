@@ -1,14 +1,14 @@
 //! Ink masks with glyph boxes for the comparison of `boxes`.
 
-use lanegravel_binding::boxes::Page;
 use lanegravel_binding::settings::RulingsParams;
 
+use crate::owned::GlyphsPage;
 use crate::params::VALID;
 use crate::random::Random;
 use crate::values::near;
 
 /// A small mask with up to six glyphs, and settings at the sizes and shares of the first of them.
-pub fn small(random: &mut Random) -> Page {
+pub fn small(random: &mut Random) -> GlyphsPage {
     let (width, height) = (side(random), side(random));
     let mut page = blank(width, height);
     page.xheight = random.pick(&[0.1, 1.0, 1.0, 3.0, 7.0, 10.0, 12.5, 4_096.0]);
@@ -17,7 +17,7 @@ pub fn small(random: &mut Random) -> Page {
 }
 
 /// A resolution, up to six glyphs, and settings at the sizes and shares of the first of them.
-pub fn scatter(random: &mut Random, page: &mut Page) {
+pub fn scatter(random: &mut Random, page: &mut GlyphsPage) {
     let (width, height) = (page.width, page.height);
     page.dpi = random.pick(&[1, 72, 96, 300, 600, u16::MAX]);
     let first = frame(random, width, height);
@@ -39,7 +39,7 @@ pub fn scatter(random: &mut Random, page: &mut Page) {
 }
 
 /// As many glyph boxes as asked for, up to 12 pixels wide, on a picture of 128 by 128.
-pub fn crowded(random: &mut Random, count: usize) -> Page {
+pub fn crowded(random: &mut Random, count: usize) -> GlyphsPage {
     let mut page = blank(128, 128);
     page.xheight = 5.0;
     page.params.box_min_xh = 0.4;
@@ -57,7 +57,7 @@ pub fn crowded(random: &mut Random, count: usize) -> Page {
 }
 
 /// A picture with one of the largest sides, and frames and single pixels all over it.
-pub fn large(random: &mut Random) -> Page {
+pub fn large(random: &mut Random) -> GlyphsPage {
     let (width, height) = random.pick(&[(8_192, 300), (300, 8_192)]);
     let mut page = blank(width, height);
     page.params.box_max_xh = 2.4;
@@ -75,7 +75,7 @@ pub fn large(random: &mut Random) -> Page {
 
 /// A form: rows of glyphs of letter size, every eighth of them an answer box of one size, some of
 /// them ticked with a stroke that leaves the box.
-pub fn form(random: &mut Random, width: usize, height: usize, count: usize) -> Page {
+pub fn form(random: &mut Random, width: usize, height: usize, count: usize) -> GlyphsPage {
     let mut page = blank(width, height);
     page.xheight = 18.0;
     page.dpi = 150;
@@ -104,8 +104,8 @@ pub fn form(random: &mut Random, width: usize, height: usize, count: usize) -> P
     page
 }
 
-pub fn blank(width: usize, height: usize) -> Page {
-    Page {
+pub fn blank(width: usize, height: usize) -> GlyphsPage {
+    GlyphsPage {
         width,
         height,
         dpi: 300,
@@ -191,7 +191,7 @@ fn black(random: &mut Random) -> u8 {
     random.pick(&[1, 1, 2, 128, 255])
 }
 
-fn set(page: &mut Page, x: u32, y: u32, byte: u8) {
+fn set(page: &mut GlyphsPage, x: u32, y: u32, byte: u8) {
     if (x as usize) < page.width && (y as usize) < page.height {
         page.ink[y as usize * page.width + x as usize] = byte;
     }
@@ -199,7 +199,7 @@ fn set(page: &mut Page, x: u32, y: u32, byte: u8) {
 
 /// A hollow frame, its edges broken now and then and up to two pixels wide, sometimes ticked or
 /// filled; the glyph box is the frame, or wider by what a tick can overshoot.
-fn hollow(random: &mut Random, page: &mut Page, frame: [u32; 4]) -> [u32; 4] {
+fn hollow(random: &mut Random, page: &mut GlyphsPage, frame: [u32; 4]) -> [u32; 4] {
     let [x0, y0, x1, y1] = frame;
     let thick = random.below(2) as u32;
     let gaps = random.pick(&[0, 0, 6, 20]);
@@ -232,7 +232,7 @@ fn hollow(random: &mut Random, page: &mut Page, frame: [u32; 4]) -> [u32; 4] {
 }
 
 /// A stroke from corner to corner.
-fn tick(random: &mut Random, page: &mut Page, [x0, y0, x1, y1]: [u32; 4]) -> [u32; 4] {
+fn tick(random: &mut Random, page: &mut GlyphsPage, [x0, y0, x1, y1]: [u32; 4]) -> [u32; 4] {
     for i in 0..=x1 - x0 {
         let y = y1 - i * (y1 - y0) / (x1 - x0).max(1);
         let byte = black(random);
@@ -242,7 +242,7 @@ fn tick(random: &mut Random, page: &mut Page, [x0, y0, x1, y1]: [u32; 4]) -> [u3
 }
 
 /// Ink of any density, over what is there.
-fn fill(random: &mut Random, page: &mut Page, [x0, y0, x1, y1]: [u32; 4]) -> [u32; 4] {
+fn fill(random: &mut Random, page: &mut GlyphsPage, [x0, y0, x1, y1]: [u32; 4]) -> [u32; 4] {
     let density = random.below(9);
     for y in y0..=y1 {
         for x in x0..=x1 {
@@ -255,7 +255,7 @@ fn fill(random: &mut Random, page: &mut Page, [x0, y0, x1, y1]: [u32; 4]) -> [u3
     [x0, y0, x1, y1]
 }
 
-fn pixel(random: &mut Random, page: &mut Page) -> [u32; 4] {
+fn pixel(random: &mut Random, page: &mut GlyphsPage) -> [u32; 4] {
     let x = random.below(page.width as u64) as u32;
     let y = random.below(page.height as u64) as u32;
     let byte = random.pick(&[0, 1, 255]);

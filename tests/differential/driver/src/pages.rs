@@ -1,13 +1,12 @@
 //! Tiny whole pages for the comparison of `detect`: pieces and glyph boxes of every kind, and settings
 //! at the limits of what stands on the page.
 
-use lanegravel_binding::detect::Page;
 use lanegravel_binding::settings::{FusionParams, RulingsParams};
-use lanegravel_binding::{boxes, segments};
 use pagetriage::pixel::rulings;
 use pagetriage::schema::{Finding, Kind};
 
 use crate::layout::table;
+use crate::owned::{GlyphsPage, PiecesPage, WholePage};
 use crate::random::Random;
 use crate::rust_layout::whole;
 use crate::values::near;
@@ -20,7 +19,7 @@ pub const FUSION: FusionParams = FusionParams {
 };
 
 /// A page of up to 24 by 24 that misses no question.
-pub fn tiny(random: &mut Random) -> Page {
+pub fn tiny(random: &mut Random) -> WholePage {
     let mut page = drawn(random);
     settings(random, &mut page);
     for _ in 0..random.below(4) {
@@ -30,9 +29,9 @@ pub fn tiny(random: &mut Random) -> Page {
 }
 
 /// As many pieces and as many glyph boxes as there may be, on a picture of 128 by 128.
-pub fn crowded(random: &mut Random) -> Page {
+pub fn crowded(random: &mut Random) -> WholePage {
     let marks = masks::crowded(random, 16_384);
-    let mut rules = segments::Page {
+    let mut rules = PiecesPage {
         xheight: marks.xheight,
         pieces: pieces::crowded(random, 4_096).pieces,
         ..pieces::picture(random, marks.width, marks.height)
@@ -46,7 +45,7 @@ pub fn crowded(random: &mut Random) -> Page {
 }
 
 /// A picture with one of the largest sides, and a page that is little smaller.
-pub fn long(random: &mut Random) -> Page {
+pub fn long(random: &mut Random) -> WholePage {
     let rules = pieces::large(random);
     let mut marks = masks::blank(rules.width, rules.height);
     marks.xheight = rules.xheight;
@@ -60,13 +59,13 @@ pub fn long(random: &mut Random) -> Page {
 }
 
 /// Pieces and glyph boxes in a picture, and tables that move a page into it.
-fn drawn(random: &mut Random) -> Page {
+fn drawn(random: &mut Random) -> WholePage {
     let (page_width, page_height) = (side(random), side(random));
     let padding = random.pick(&[1, 3, 6]);
     let (down, across) = (random.below(padding), random.below(padding));
     let (width, height) = (page_width + across as usize, page_height + down as usize);
     let xheight = random.pick(&[0.25, 1.0, 1.0, 2.5, 4.0, 10.0, 4_096.0]);
-    let mut rules = segments::Page {
+    let mut rules = PiecesPage {
         xheight,
         ..pieces::picture(random, width, height)
     };
@@ -76,7 +75,7 @@ fn drawn(random: &mut Random) -> Page {
         lattice(random, &mut rules);
     }
     shade(random, &mut rules);
-    let mut marks = boxes::Page {
+    let mut marks = GlyphsPage {
         xheight,
         ..masks::blank(width, height)
     };
@@ -93,12 +92,12 @@ fn side(random: &mut Random) -> usize {
 /// The page whose levelled picture has these pieces and these glyph boxes, and its grey where a pixel
 /// of the page goes.
 pub fn composed(
-    rules: segments::Page,
-    marks: boxes::Page,
+    rules: PiecesPage,
+    marks: GlyphsPage,
     page_height: usize,
     shear: Vec<i32>,
     shear_x: Vec<i32>,
-) -> Page {
+) -> WholePage {
     let page_width = shear.len();
     let mut gray = Vec::with_capacity(page_width * page_height);
     for y in 0..page_height {
@@ -107,7 +106,7 @@ pub fn composed(
             gray.push(rules.raster[row * rules.width + x + shear_x[row] as usize]);
         }
     }
-    Page {
+    WholePage {
         page_width,
         page_height,
         width: rules.width,
@@ -130,7 +129,7 @@ pub fn composed(
 }
 
 /// Up to four lines each way that reach each other or miss by little.
-fn lattice(random: &mut Random, page: &mut segments::Page) {
+fn lattice(random: &mut Random, page: &mut PiecesPage) {
     page.params.merge_across_xh = random.pick(&[0.0, 0.5, 1.0]) / page.xheight.max(1.0);
     page.params.merge_gap_xh = random.pick(&[0.0, 1.0, 3.0]) / page.xheight.max(1.0);
     let (right, bottom) = (page.width as u32 - 1, page.height as u32 - 1);
@@ -164,7 +163,7 @@ fn line(random: &mut Random, last: u32, across: u32) -> Vec<[u32; 4]> {
 }
 
 /// The paper as it is, or light; each piece as it is, dark, faint or of any grey, or all dark.
-fn shade(random: &mut Random, page: &mut segments::Page) {
+fn shade(random: &mut Random, page: &mut PiecesPage) {
     let paper = random.below(3);
     if paper > 0 {
         page.raster
@@ -186,7 +185,7 @@ fn shade(random: &mut Random, page: &mut segments::Page) {
 }
 
 /// The settings of tables, grids and findings, each usual or at a limit of its questions.
-fn settings(random: &mut Random, page: &mut Page) {
+fn settings(random: &mut Random, page: &mut WholePage) {
     let unit = page.xheight.max(1.0);
     let coefs = [0.0, -0.0, 0.5, 0.5, -0.4, 2.0, 1e6, -1e6];
     let caps = [0.0, -0.0, 1.0, 3.0, 100.0, -2.0, 1e6];
@@ -229,7 +228,7 @@ fn settings(random: &mut Random, page: &mut Page) {
 }
 
 /// Moves a setting to a value of the page that it is held against, or beside it.
-fn tighten(random: &mut Random, page: &mut Page) {
+fn tighten(random: &mut Random, page: &mut WholePage) {
     let layout = whole(page);
     let p = params::rust(&page.params);
     if random.below(3) == 0 {
@@ -255,7 +254,7 @@ fn tighten(random: &mut Random, page: &mut Page) {
 }
 
 /// The same, by what one finding has.
-fn tighten_by(random: &mut Random, page: &mut Page, finding: &Finding) {
+fn tighten_by(random: &mut Random, page: &mut WholePage, finding: &Finding) {
     let sum: f64 = finding.evidence.iter().map(|e| e.llr).sum();
     let first = &finding.evidence[0];
     let count = first.value as u32 + random.below(2) as u32;

@@ -1,20 +1,19 @@
 //! Pages of rule pieces for the comparison of `segments`, and their closed sets by a flood fill.
 
-use lanegravel_binding::segments::Page;
-
 use crate::flood::flood;
+use crate::owned::PiecesPage;
 use crate::params::VALID;
 use crate::random::Random;
 
 /// The pieces of a page.
-pub fn rects(page: &Page) -> impl Iterator<Item = [u32; 4]> {
+pub fn rects(page: &PiecesPage) -> impl Iterator<Item = [u32; 4]> {
     page.pieces
         .chunks_exact(4)
         .map(|r| [r[0], r[1], r[2], r[3]])
 }
 
 /// The closed sets of pieces, members ascending, in the order of their rulings.
-pub fn closed_sets(page: &Page) -> Vec<Vec<u32>> {
+pub fn closed_sets(page: &PiecesPage) -> Vec<Vec<u32>> {
     let pieces: Vec<[u32; 4]> = rects(page).collect();
     let across = limit(page.params.merge_across_xh, page.xheight);
     let gap = limit(page.params.merge_gap_xh, page.xheight);
@@ -47,7 +46,7 @@ fn limit(setting: f64, xheight: f64) -> i128 {
 }
 
 /// A small picture with up to twelve pieces of one kind, or of all.
-pub fn small(random: &mut Random) -> Page {
+pub fn small(random: &mut Random) -> PiecesPage {
     let (width, height) = (side(random), side(random));
     let mut page = picture(random, width, height);
     page.xheight = random.pick(&[0.25, 1.0, 1.0, 2.5, 4.0, 4_096.0]);
@@ -56,7 +55,7 @@ pub fn small(random: &mut Random) -> Page {
 }
 
 /// Merging settings, and up to twelve pieces of one kind, or of all.
-pub fn scatter(random: &mut Random, page: &mut Page) {
+pub fn scatter(random: &mut Random, page: &mut PiecesPage) {
     let (width, height) = (page.width, page.height);
     page.params.merge_across_xh = setting(random);
     page.params.merge_gap_xh = setting(random);
@@ -75,7 +74,7 @@ pub fn scatter(random: &mut Random, page: &mut Page) {
 }
 
 /// As many pieces as asked for, short strokes or pixels, on a picture of 64 by 64.
-pub fn crowded(random: &mut Random, count: usize) -> Page {
+pub fn crowded(random: &mut Random, count: usize) -> PiecesPage {
     let mut page = picture(random, 64, 64);
     page.params.merge_across_xh = random.pick(&[0.0, 1.0]);
     page.params.merge_gap_xh = random.pick(&[0.0, 1.0]);
@@ -91,7 +90,7 @@ pub fn crowded(random: &mut Random, count: usize) -> Page {
 }
 
 /// A picture with one of the largest sides, and strokes and bands all over it.
-pub fn large(random: &mut Random) -> Page {
+pub fn large(random: &mut Random) -> PiecesPage {
     let (width, height) = random.pick(&[(8_192, 100), (100, 8_192)]);
     let mut page = picture(random, width, height);
     for _ in 0..60 {
@@ -107,7 +106,7 @@ pub fn large(random: &mut Random) -> Page {
 
 /// A ruled form: tables of up to 12 by 8 lines, every rule broken into pieces that are shifted by a
 /// pixel now and then, on grey paper.
-pub fn form(random: &mut Random) -> Page {
+pub fn form(random: &mut Random) -> PiecesPage {
     let mut page = picture(random, 600, 800);
     page.raster.fill_with(|| 200 + random.below(56) as u8);
     page.xheight = 8.0 + random.below(8) as f64 / 2.0;
@@ -142,7 +141,14 @@ pub fn form(random: &mut Random) -> Page {
 }
 
 /// One rule from `from` to `to`, in pieces of up to 200 pixels with gaps of up to 30, in the raster too.
-fn broken(random: &mut Random, page: &mut Page, from: u32, to: u32, at: u32, horizontal: bool) {
+fn broken(
+    random: &mut Random,
+    page: &mut PiecesPage,
+    from: u32,
+    to: u32,
+    at: u32,
+    horizontal: bool,
+) {
     let mut start = from;
     while start < to {
         let end = (start + random.below(200) as u32).min(to);
@@ -165,8 +171,8 @@ fn broken(random: &mut Random, page: &mut Page, from: u32, to: u32, at: u32, hor
 }
 
 /// A picture of random grey, with settings that every question accepts and no pieces.
-pub fn picture(random: &mut Random, width: usize, height: usize) -> Page {
-    Page {
+pub fn picture(random: &mut Random, width: usize, height: usize) -> PiecesPage {
+    PiecesPage {
         width,
         height,
         xheight: 1.0,
@@ -227,7 +233,7 @@ fn stroke(random: &mut Random, width: usize, height: usize) -> [u32; 4] {
 }
 
 /// A piece that was there before, or a stroke where there is none.
-fn again(random: &mut Random, page: &Page) -> [u32; 4] {
+fn again(random: &mut Random, page: &PiecesPage) -> [u32; 4] {
     if page.pieces.is_empty() || random.below(3) == 0 {
         return stroke(random, page.width, page.height);
     }
@@ -236,7 +242,7 @@ fn again(random: &mut Random, page: &Page) -> [u32; 4] {
 }
 
 /// A piece behind another, at the gap limit or one past it, and across at the limit or one past it.
-fn beside(random: &mut Random, page: &Page) -> [u32; 4] {
+fn beside(random: &mut Random, page: &PiecesPage) -> [u32; 4] {
     let [x0, y0, x1, y1] = again(random, page);
     let move_by = |random: &mut Random, limit: i128, extra: u64| {
         (limit.min(30) + random.below(extra) as i128) as u32

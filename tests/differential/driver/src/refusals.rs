@@ -1,8 +1,9 @@
 //! The questions put to a whole page, computed from document 01's words, and changes that miss them.
 
-use lanegravel_binding::detect::Page;
-use lanegravel_binding::workspace::Workspace;
+use lanegravel_binding::testing::Lists;
+use lanegravel_binding::workspace::{Room, Workspace};
 
+use crate::owned::WholePage;
 use crate::params;
 use crate::questions::{self, LARGEST_SIDE};
 use crate::random::Random;
@@ -11,7 +12,7 @@ const MOST_PIECES: usize = 4096;
 const MOST_GLYPHS: usize = 16_384;
 
 /// The number of the first missed question of 1 to 14; `room` says whether 14 is met.
-pub fn question(page: &Page, room: bool) -> u32 {
+pub fn question(page: &WholePage, room: bool) -> u32 {
     let missed = params::first_missed(&page.params);
     questions::first_missed(&[
         (1, sides_met(page)),
@@ -30,14 +31,14 @@ pub fn question(page: &Page, room: bool) -> u32 {
     ])
 }
 
-fn sides_met(page: &Page) -> bool {
+fn sides_met(page: &WholePage) -> bool {
     let sides = [page.page_width, page.page_height, page.width, page.height];
     sides.iter().all(|n| (1..=LARGEST_SIDE).contains(n))
         && page.page_width <= page.width
         && page.page_height <= page.height
 }
 
-fn lengths_met(page: &Page) -> bool {
+fn lengths_met(page: &WholePage) -> bool {
     let places = |width: usize, height: usize| width as u128 * height as u128;
     page.gray.len() as u128 == places(page.page_width, page.page_height)
         && page.ink.len() as u128 == places(page.width, page.height)
@@ -45,7 +46,7 @@ fn lengths_met(page: &Page) -> bool {
         && page.shear_x.len() == page.height
 }
 
-fn tables_met(page: &Page) -> bool {
+fn tables_met(page: &WholePage) -> bool {
     let fits = |table: &[i32], side: usize, inner: usize| {
         let limit = side as i128 - inner as i128;
         table.iter().all(|&s| (0..=limit).contains(&s.into()))
@@ -56,24 +57,28 @@ fn tables_met(page: &Page) -> bool {
 
 /// The room that question 14 asks, and no more. A picture that is too large to lend misses question 1,
 /// so it gets little.
-pub fn workspace(page: &Page) -> Workspace {
-    let (width, height) = match page.width.checked_mul(page.height) {
-        Some(places) if places <= LARGEST_SIDE * LARGEST_SIDE => (page.width, page.height),
-        _ => (8, 8),
+pub fn workspace(page: &WholePage) -> Workspace {
+    let places = match page.width.checked_mul(page.height) {
+        Some(places) if places <= LARGEST_SIDE * LARGEST_SIDE => places,
+        _ => 64,
     };
-    Workspace::new(page.pieces.len() / 4, page.glyphs.len() / 4, width, height)
+    let (pieces, glyphs) = (page.pieces.len() / 4, page.glyphs.len() / 4);
+    Workspace::with_room(&Room::exact(pieces, glyphs, places))
 }
 
 /// Whether question 14 is met: the levelled raster has exactly its room, every other list at least.
-pub fn room_met(page: &Page, lent: &mut Workspace) -> bool {
+pub fn room_met(page: &WholePage, lent: &mut Workspace) -> bool {
     let mut asked = workspace(page);
-    let counts = lent.lists().map(|list| list.count());
-    let asked = asked.lists().map(|list| list.count());
+    let [counts, asked] = [lent, &mut asked].map(counts);
     counts[0] == asked[0] && counts.iter().zip(&asked).all(|(lent, asked)| lent >= asked)
 }
 
+fn counts(lent: &mut Workspace) -> Vec<usize> {
+    lent.lists().iter().map(|list| list.count()).collect()
+}
+
 /// A change that misses one question, its number in front, of a page with pieces and glyph boxes.
-pub type Miss = (u32, fn(&mut Page));
+pub type Miss = (u32, fn(&mut WholePage));
 
 /// Every question up to 13, in each of the things that it asks.
 pub const MISSES: [Miss; 37] = [
@@ -122,7 +127,7 @@ fn past(side: usize, inner: usize) -> i32 {
 }
 
 /// One change that may miss a question.
-pub fn spoil(random: &mut Random, page: &mut Page) {
+pub fn spoil(random: &mut Random, page: &mut WholePage) {
     let (width, height) = (page.width, page.height);
     match random.below(16) {
         0 => page.width = questions::bad_side(random),

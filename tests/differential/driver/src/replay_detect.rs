@@ -4,9 +4,10 @@
 use std::io;
 use std::path::Path;
 
-use lanegravel_binding::detect::{DetectAnswer, Page};
+use lanegravel_binding::detect::DetectAnswer;
 use lanegravel_binding::workspace::Workspace;
 
+use crate::owned::WholePage;
 use crate::random::Random;
 use crate::refusals::{self, MISSES, question, room_met, workspace};
 use crate::replay::Sample;
@@ -57,13 +58,13 @@ pub fn write(dir: &Path) -> io::Result<usize> {
     sample.write(dir)
 }
 
-fn add(sample: &mut Sample, page: &Page, room: usize) {
+fn add(sample: &mut Sample, page: &WholePage, room: usize) {
     let (answer, lists) = answered(page, room);
     sample.add_line(&call(page, room), &line(&answer, &lists, page));
 }
 
 /// A page that the program has room for, with pieces and glyph boxes, and with a finding of this kind.
-fn drawn(random: &mut Random, kind: Option<u32>) -> Page {
+fn drawn(random: &mut Random, kind: Option<u32>) -> WholePage {
     loop {
         let page = pages::tiny(random);
         let lists = [&page.pieces, &page.glyphs];
@@ -79,11 +80,11 @@ fn drawn(random: &mut Random, kind: Option<u32>) -> Page {
     }
 }
 
-fn places(page: &Page) -> usize {
+fn places(page: &WholePage) -> usize {
     page.width * page.height
 }
 
-fn fits(page: &Page, room: usize) -> bool {
+fn fits(page: &WholePage, room: usize) -> bool {
     page.pieces.len() <= RECTS
         && page.glyphs.len() <= RECTS
         && page.shear.len().max(page.shear_x.len()) <= ENTRIES
@@ -91,7 +92,7 @@ fn fits(page: &Page, room: usize) -> bool {
 }
 
 /// The answer, and the lists after it.
-fn answered(page: &Page, room: usize) -> (DetectAnswer, Workspace) {
+fn answered(page: &WholePage, room: usize) -> (DetectAnswer, Workspace) {
     let mut lent = workspace(page);
     lent.levelled = vec![LENT; room];
     match question(page, room_met(page, &mut lent)) {
@@ -107,7 +108,7 @@ fn answered(page: &Page, room: usize) -> (DetectAnswer, Workspace) {
 }
 
 /// What is given by value, then the lists, and how many bytes are lent.
-fn call(page: &Page, room: usize) -> String {
+fn call(page: &WholePage, room: usize) -> String {
     let sides = [page.page_width, page.page_height, page.width, page.height];
     let mut line = Line("d".into());
     let mut p = page.params;
@@ -130,7 +131,7 @@ fn call(page: &Page, room: usize) -> String {
 }
 
 /// The number and the counts, every byte of the levelled raster, then list after list.
-fn line(a: &DetectAnswer, l: &Workspace, page: &Page) -> String {
+fn line(a: &DetectAnswer, l: &Workspace, page: &WholePage) -> String {
     let mut line = Line::default();
     line.word(a.number.into());
     let counts = [a.rulings, a.printed, a.faint, a.tables, a.boxes, a.grids];

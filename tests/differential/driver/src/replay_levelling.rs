@@ -1,10 +1,10 @@
 //! The stored calls of `level_gray`, `to_page` and `rect_to_page`: one small page with every limit of
 //! the questions and what lies past it, one change at a time, then pages as the comparisons draw them.
 
-use lanegravel_binding::layout::Page;
 use pagetriage::pixel::layout::Rect;
 
 use crate::layout::{along, level_question, map_question, page, rectangle};
+use crate::owned::LayoutPage;
 use crate::questions::LARGEST_SIDE as LARGEST;
 use crate::random::Random;
 use crate::replay::Sample;
@@ -27,7 +27,7 @@ const LENT: u8 = 7;
 /// The number, then the raster: the Rust's, or as it was lent.
 pub fn add_level_gray(sample: &mut Sample, random: &mut Random) {
     let pages = at_limits().into_iter().chain(drawn(random));
-    let mut cases: Vec<(Page, usize)> = pages.map(with_room).collect();
+    let mut cases: Vec<(LayoutPage, usize)> = pages.map(with_room).collect();
     for pixels in [5, 7] {
         let mut page = base();
         page.gray.resize(pixels, 0);
@@ -50,7 +50,7 @@ pub fn add_level_gray(sample: &mut Sample, random: &mut Random) {
 
 /// The number, then the place, 0 and 0 where the page is refused.
 pub fn add_to_page(sample: &mut Sample, random: &mut Random) {
-    let mut cases: Vec<(Page, [u32; 2])> = Vec::new();
+    let mut cases: Vec<(LayoutPage, [u32; 2])> = Vec::new();
     cases.extend(at_limits().into_iter().map(|page| (page, [0, 0])));
     for (x, y) in (0..=4).flat_map(|y| (0..=5).map(move |x| (x, y))) {
         cases.push((base(), [x, y]));
@@ -80,7 +80,7 @@ pub fn add_to_page(sample: &mut Sample, random: &mut Random) {
 
 /// The number, then the rectangle, four times 0 where the page is refused.
 pub fn add_rect_to_page(sample: &mut Sample, random: &mut Random) {
-    let mut cases: Vec<(Page, [u32; 4])> = Vec::new();
+    let mut cases: Vec<(LayoutPage, [u32; 4])> = Vec::new();
     cases.extend(at_limits().into_iter().map(|page| (page, [0; 4])));
     cases.extend(RECTANGLES.map(|r| (base(), r)));
     cases.extend(several().map(|page| (page, [3, 3, 2, 2])));
@@ -125,8 +125,8 @@ const RECTANGLES: [[u32; 4]; 15] = [
 ];
 
 /// A page of 3 by 2 in a picture of 5 by 4, with an entry at either limit of both tables.
-fn base() -> Page {
-    Page {
+fn base() -> LayoutPage {
+    LayoutPage {
         page_width: 3,
         page_height: 2,
         width: 5,
@@ -138,14 +138,14 @@ fn base() -> Page {
 }
 
 /// One pixel in a picture as wide as there may be.
-fn wide() -> Page {
+fn wide() -> LayoutPage {
     let right = LARGEST as i32 - 1;
     still([1, 1, LARGEST, 1], vec![right])
 }
 
 /// A page without shear, in a picture of which every row begins where `shear_x` says.
-fn still([page_width, page_height, width, height]: [usize; 4], shear_x: Vec<i32>) -> Page {
-    Page {
+fn still([page_width, page_height, width, height]: [usize; 4], shear_x: Vec<i32>) -> LayoutPage {
+    LayoutPage {
         page_width,
         page_height,
         width,
@@ -157,12 +157,12 @@ fn still([page_width, page_height, width, height]: [usize; 4], shear_x: Vec<i32>
 }
 
 /// The base page and what differs from it in one thing, pages without padding, and the widest picture.
-fn at_limits() -> Vec<Page> {
+fn at_limits() -> Vec<LayoutPage> {
     let mut pages = vec![base(), still([1, 1, 1, 1], vec![0]), wide()];
     pages.push(still([3, 2, 3, 2], vec![0, 0]));
     pages.push(still([3, 2, 3, 2], vec![0, 1]));
     for [page_width, page_height, width, height] in SIDES {
-        pages.push(Page {
+        pages.push(LayoutPage {
             page_width,
             page_height,
             width,
@@ -188,12 +188,12 @@ fn at_limits() -> Vec<Page> {
 }
 
 /// Pages that miss question 4, 3 and 4, and 1, 3 and 4; each is tried with what misses a later one too.
-fn several() -> [Page; 3] {
+fn several() -> [LayoutPage; 3] {
     let mut entry = base();
     entry.shear[2] = -1;
     let mut length = entry.clone();
     length.shear_x.pop();
-    let side = Page {
+    let side = LayoutPage {
         height: 0,
         ..length.clone()
     };
@@ -221,7 +221,7 @@ const SIDES: [[usize; 4]; 15] = [
 ];
 
 /// Pages as the comparisons draw them, as far as the program has room for them.
-fn drawn(random: &mut Random) -> Vec<Page> {
+fn drawn(random: &mut Random) -> Vec<LayoutPage> {
     let mut pages = Vec::new();
     while (pages.len() as u64) < DRAWN {
         let page = page(random, pages.len() as u64);
@@ -235,7 +235,7 @@ fn drawn(random: &mut Random) -> Vec<Page> {
 }
 
 /// A page with as many bytes as its picture has, or as the base page's where there would be too many.
-fn with_room(page: Page) -> (Page, usize) {
+fn with_room(page: LayoutPage) -> (LayoutPage, usize) {
     match page.width.saturating_mul(page.height) {
         room if room <= PIXELS => (page, room),
         _ => (page, ROOM),
@@ -243,7 +243,7 @@ fn with_room(page: Page) -> (Page, usize) {
 }
 
 /// The number of a call, the sides, the tables in two's complement, the grey raster and its numbers.
-fn call(number: u64, page: &Page, gray: &[u8], numbers: &[u32]) -> String {
+fn call(number: u64, page: &LayoutPage, gray: &[u8], numbers: &[u32]) -> String {
     let sides = [page.page_width, page.page_height, page.width, page.height];
     let mut line = Line(format!("{number:x}"));
     sides.iter().for_each(|&n| line.word(n as u64));

@@ -1,10 +1,12 @@
 //! The pages of the replayed sample: small ones, so that a program without a heap can hold them.
 
+use lanegravel_binding::boxes::BoxesLists;
 use lanegravel_binding::grids::GridsLists;
-use lanegravel_binding::segments::{Lent, Page};
+use lanegravel_binding::segments::SegmentsLists;
 use lanegravel_binding::settings::RulingsParams;
 use lanegravel_binding::tables::TablesLists;
 
+use crate::owned::{GlyphsPage, PiecesPage};
 use crate::random::Random;
 use crate::replay::Sample;
 use crate::tally::bits;
@@ -81,9 +83,9 @@ pub fn add_segments(sample: &mut Sample, random: &mut Random) {
 }
 
 /// The number, the count, then list after list.
-fn rulings(page: &Page) -> Line {
+fn rulings(page: &PiecesPage) -> Line {
     let mut line = Line::default();
-    let lent = Lent::with_room(ROOM, ROOM);
+    let lent = SegmentsLists::with_room(ROOM, ROOM);
     let number = segments::question(page, &lent);
     line.word(number.into());
     if number != 0 {
@@ -164,9 +166,9 @@ pub fn add_boxes(sample: &mut Sample, random: &mut Random) {
 }
 
 /// The number, the count, then list after list.
-fn marked(page: &lanegravel_binding::boxes::Page) -> Line {
+fn marked(page: &GlyphsPage) -> Line {
     let mut line = Line::default();
-    let lent = lanegravel_binding::boxes::Lent::with_room(ROOM);
+    let lent = BoxesLists::with_room(ROOM);
     let number = boxes::question(page, &lent);
     line.word(number.into());
     if number != 0 {

@@ -1,12 +1,11 @@
 //! The Rust's layout, by its public fields.
 
-use lanegravel_binding::boxes;
-use lanegravel_binding::detect;
-use lanegravel_binding::layout::Page;
 use pagetriage::pixel::layout::{GlyphBox, Layout, Rect};
 
+use crate::owned::{GlyphsPage, LayoutPage, WholePage};
+
 /// A page for levelling.
-pub fn layout(page: &Page) -> Layout {
+pub fn layout(page: &LayoutPage) -> Layout {
     Layout {
         width: page.width,
         height: page.height,
@@ -32,7 +31,7 @@ pub fn with_rules(width: usize, height: usize, xheight: f64, pieces: &[u32]) -> 
 }
 
 /// A levelled picture with its ink mask and glyph boxes, four numbers each.
-pub fn with_glyphs(page: &boxes::Page) -> Layout {
+pub fn with_glyphs(page: &GlyphsPage) -> Layout {
     Layout {
         width: page.width,
         height: page.height,
@@ -46,7 +45,7 @@ pub fn with_glyphs(page: &boxes::Page) -> Layout {
 }
 
 /// A whole page.
-pub fn whole(page: &detect::Page) -> Layout {
+pub fn whole(page: &WholePage) -> Layout {
     Layout {
         width: page.width,
         height: page.height,

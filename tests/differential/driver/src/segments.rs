@@ -1,10 +1,11 @@
 //! Pieces to rulings: `segments`, against the unchanged Rust to the bit, its sets against a plain
 //! flood fill. Pages are small and of many kinds; every fourth one misses a question or several.
 
-use lanegravel_binding::segments::{self as ffi, Lent, Page};
+use lanegravel_binding::segments::{self as ffi, SegmentsLists};
 use pagetriage::pixel::rulings;
 
 use crate::flood;
+use crate::owned::PiecesPage;
 use crate::params;
 use crate::pieces;
 use crate::questions;
@@ -43,10 +44,10 @@ pub fn forms(random: &mut Random, count: u64) -> Tally {
     tally
 }
 
-fn compare(random: &mut Random, tally: &mut Tally, page: &Page) {
+fn compare(random: &mut Random, tally: &mut Tally, page: &PiecesPage) {
     let lent = lend(random, page);
     let mut found = lent.clone();
-    let answer = ffi::segments(page, &mut found);
+    let answer = ffi::segments(&page.given(), &mut found);
     let number = question(page, &lent);
     let (expected, library) = if number == 0 {
         let (count, written) = accepted(page, &lent);
@@ -61,7 +62,7 @@ fn compare(random: &mut Random, tally: &mut Tally, page: &Page) {
 }
 
 /// The number, the count and every place of the lists that are answered in.
-fn answers(number: u32, count: usize, lent: &Lent) -> Vec<u64> {
+fn answers(number: u32, count: usize, lent: &SegmentsLists) -> Vec<u64> {
     let mut words = vec![u64::from(number), count as u64];
     for list in [&lent.rects, &lent.directions, &lent.members, &lent.ends] {
         words.extend(list.iter().map(|&x| u64::from(x)));
@@ -71,7 +72,7 @@ fn answers(number: u32, count: usize, lent: &Lent) -> Vec<u64> {
 }
 
 /// Every place of the work lists.
-fn work(lent: &Lent) -> Vec<u64> {
+fn work(lent: &SegmentsLists) -> Vec<u64> {
     let lists = [&lent.parents, &lent.listed, &lent.listed_ends, &lent.work];
     let words = lists.into_iter().flatten().map(|&x| u64::from(x));
     words.chain(lent.keys.iter().copied()).collect()
@@ -79,7 +80,7 @@ fn work(lent: &Lent) -> Vec<u64> {
 
 /// What an accepted page answers, the count and the lists: the Rust's segments, and the sets of a
 /// flood fill in their order.
-pub fn accepted(page: &Page, lent: &Lent) -> (usize, Lent) {
+pub fn accepted(page: &PiecesPage, lent: &SegmentsLists) -> (usize, SegmentsLists) {
     let layout = with_rules(page.width, page.height, page.xheight, &page.pieces);
     let segments = rulings::segments(&layout, &page.raster, &params::rust(&page.params));
     let sets = pieces::closed_sets(page);
@@ -100,7 +101,7 @@ pub fn accepted(page: &Page, lent: &Lent) -> (usize, Lent) {
 }
 
 /// Lists with room and sometimes more, filled with a pattern; now and then one entry short.
-fn lend(random: &mut Random, page: &Page) -> Lent {
+fn lend(random: &mut Random, page: &PiecesPage) -> SegmentsLists {
     let n = page.pieces.len() / 4;
     let short = random.below(100);
     let mut room = |list: u64, n: usize| {
@@ -124,7 +125,7 @@ fn lend(random: &mut Random, page: &Page) -> Lent {
         room(9, n),
     ];
     let mut words = |n: usize| (0..n).map(|_| random.bits() as u32).collect::<Vec<u32>>();
-    Lent {
+    SegmentsLists {
         rects: words(sizes[0]),
         directions: words(sizes[1]),
         contrasts: words(sizes[2]).into_iter().map(f64::from).collect(),
@@ -139,7 +140,7 @@ fn lend(random: &mut Random, page: &Page) -> Lent {
 }
 
 /// The number of the first missed question of document 01, said here in plain Rust.
-pub fn question(page: &Page, lent: &Lent) -> u32 {
+pub fn question(page: &PiecesPage, lent: &SegmentsLists) -> u32 {
     let n = page.pieces.len() / 4;
     let room = page.raster.len() as u128 == page.width as u128 * page.height as u128
         && lent.rects.len() >= 4 * n
@@ -160,7 +161,7 @@ pub fn question(page: &Page, lent: &Lent) -> u32 {
 }
 
 /// One change that may miss a question.
-pub fn spoil(random: &mut Random, page: &mut Page) {
+pub fn spoil(random: &mut Random, page: &mut PiecesPage) {
     match random.below(12) {
         0 => page.width = questions::bad_side(random),
         1 => page.height = questions::bad_side(random),

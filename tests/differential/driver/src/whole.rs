@@ -1,10 +1,10 @@
 //! What an accepted page must answer, list by list: from the Rust's stages and from `detect_with`.
 
-use lanegravel_binding::boxes::{self as ffi_boxes, Lent as BoxLists};
-use lanegravel_binding::detect::{DetectAnswer, Page};
+use lanegravel_binding::boxes::BoxesLists;
+use lanegravel_binding::detect::DetectAnswer;
 use lanegravel_binding::findings::FindingLists;
 use lanegravel_binding::grids::GridsLists;
-use lanegravel_binding::segments::{self as ffi_segments, Lent as RulingLists};
+use lanegravel_binding::segments::SegmentsLists;
 use lanegravel_binding::tables::TablesLists;
 use lanegravel_binding::workspace::Workspace;
 use pagetriage::pixel::rulings;
@@ -12,12 +12,13 @@ use pagetriage::schema::{Evidence, Finding, Kind};
 use serde_json::{Number, Value};
 
 use crate::findings::argument_behind;
+use crate::owned::{GlyphsPage, PiecesPage, WholePage};
 use crate::rust_layout;
 use crate::{aligned, boxes, grids, params, ruled, segments, tables};
 
 /// The answer, and the lists as they must be. Where an evidence number is not finite, 15, and of the
 /// lists only the levelled raster means anything.
-pub fn wanted(page: &Page, before: &Workspace) -> (DetectAnswer, Workspace) {
+pub fn wanted(page: &WholePage, before: &Workspace) -> (DetectAnswer, Workspace) {
     let mut answer = DetectAnswer::default();
     let mut l = before.clone();
     l.levelled = rust_layout::whole(page).level_gray(&page.gray);
@@ -35,8 +36,8 @@ pub fn wanted(page: &Page, before: &Workspace) -> (DetectAnswer, Workspace) {
     (answer, l)
 }
 
-fn want_rulings(page: &Page, answer: &mut DetectAnswer, l: &mut Workspace) {
-    let given = ffi_segments::Page {
+fn want_rulings(page: &WholePage, answer: &mut DetectAnswer, l: &mut Workspace) {
+    let given = PiecesPage {
         width: page.width,
         height: page.height,
         xheight: page.xheight,
@@ -44,13 +45,13 @@ fn want_rulings(page: &Page, answer: &mut DetectAnswer, l: &mut Workspace) {
         pieces: page.pieces.clone(),
         params: page.params,
     };
-    let lists = RulingLists {
+    let lists = SegmentsLists {
         rects: l.rects.clone(),
         directions: l.directions.clone(),
         contrasts: l.contrasts.clone(),
         members: l.piece_members.clone(),
         ends: l.piece_ends.clone(),
-        ..RulingLists::with_room(0, 0)
+        ..SegmentsLists::with_room(0, 0)
     };
     let (count, written) = segments::accepted(&given, &lists);
     answer.rulings = count;
@@ -62,7 +63,7 @@ fn want_rulings(page: &Page, answer: &mut DetectAnswer, l: &mut Workspace) {
 }
 
 /// The Rust parts the rulings by this comparison.
-fn want_printed(page: &Page, answer: &mut DetectAnswer, l: &mut Workspace) {
+fn want_printed(page: &WholePage, answer: &mut DetectAnswer, l: &mut Workspace) {
     let rulings = 0..answer.rulings as u32;
     let dark = |k: &u32| l.contrasts[*k as usize] >= page.params.rule_min_contrast;
     let (printed, faint): (Vec<u32>, Vec<u32>) = rulings.partition(dark);
@@ -71,7 +72,7 @@ fn want_printed(page: &Page, answer: &mut DetectAnswer, l: &mut Workspace) {
     (answer.printed, answer.faint) = (printed.len(), faint.len());
 }
 
-fn want_tables(page: &Page, answer: &mut DetectAnswer, l: &mut Workspace) {
+fn want_tables(page: &WholePage, answer: &mut DetectAnswer, l: &mut Workspace) {
     let printed = &l.printed[..answer.printed];
     let rect = |&k: &u32| [0, 1, 2, 3].map(|c| l.rects[4 * k as usize + c]);
     let given = ruled::Page {
@@ -105,8 +106,8 @@ fn want_tables(page: &Page, answer: &mut DetectAnswer, l: &mut Workspace) {
     l.free = written.free;
 }
 
-fn want_boxes(page: &Page, answer: &mut DetectAnswer, l: &mut Workspace) {
-    let given = ffi_boxes::Page {
+fn want_boxes(page: &WholePage, answer: &mut DetectAnswer, l: &mut Workspace) {
+    let given = GlyphsPage {
         width: page.width,
         height: page.height,
         dpi: page.dpi,
@@ -115,7 +116,7 @@ fn want_boxes(page: &Page, answer: &mut DetectAnswer, l: &mut Workspace) {
         glyphs: page.glyphs.clone(),
         params: page.params,
     };
-    let lists = BoxLists {
+    let lists = BoxesLists {
         rects: l.boxes.clone(),
         marks: l.marks.clone(),
         coverages: l.coverages.clone(),
@@ -127,7 +128,7 @@ fn want_boxes(page: &Page, answer: &mut DetectAnswer, l: &mut Workspace) {
     l.coverages = written.coverages;
 }
 
-fn want_grids(page: &Page, answer: &mut DetectAnswer, l: &mut Workspace) {
+fn want_grids(page: &WholePage, answer: &mut DetectAnswer, l: &mut Workspace) {
     let given = aligned::Page {
         xheight: page.xheight,
         p: page.params,
@@ -150,7 +151,7 @@ fn want_grids(page: &Page, answer: &mut DetectAnswer, l: &mut Workspace) {
 
 /// The findings of `detect_with`, each with its log odds; false where it stops at a number that is not
 /// finite. Its six counts are held against those of the stages.
-fn want_findings(page: &Page, answer: &mut DetectAnswer, l: &mut Workspace) -> bool {
+fn want_findings(page: &WholePage, answer: &mut DetectAnswer, l: &mut Workspace) -> bool {
     let layout = rust_layout::whole(page);
     let (p, fusion) = (
         params::rust(&page.params),

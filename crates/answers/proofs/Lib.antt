@@ -1,0 +1,3 @@
+-- Laws that answers by value need beside the contracts that they pass on.
+pub mod Answered
+pub mod Part

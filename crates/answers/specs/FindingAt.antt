@@ -1,0 +1,56 @@
+-- A finding as C gets it: found 1 and its numbers, or all 0 where there is none.
+use Rattle.math.specs.Constants.{zero}
+use Rattle.evidence.specs.declared.finding.Row.{Row}
+use Rattle.evidence.specs.Finding.{rowOf}
+use Rattle.finding_lists.specs.declared.read.FindingAt.{FindingAt}
+use Rattle.finding_lists.specs.declared.read.FindingAt.the-variants.{Found, Nothing}
+use Rattle.answers.specs.declared.finding_at.FindingAtAnswer.{FindingAtAnswer}
+
+abbrev pub ofRow : Row → FindingAtAnswer
+ofRow r =
+    record {
+      found = 1;
+      kind = r .kind;
+      x0 = r .bbox .x0;
+      y0 = r .bbox .y0;
+      x1 = r .bbox .x1;
+      y1 = r .bbox .y1;
+      a = r .a;
+      b = r .b;
+      c = r .c;
+      «log_odds» = r .«log_odds»;
+      «first_value» = r .first .value;
+      «first_threshold» = r .first .threshold;
+      «first_llr» = r .first .llr;
+      «second_value» = r .second .value;
+      «second_threshold» = r .second .threshold;
+      «second_llr» = r .second .llr;
+      length = r .length;
+    }
+
+abbrev pub allZeros : FindingAtAnswer
+allZeros =
+    record {
+      found = 0;
+      kind = 0;
+      x0 = 0;
+      y0 = 0;
+      x1 = 0;
+      y1 = 0;
+      a = 0;
+      b = 0;
+      c = 0;
+      «log_odds» = zero;
+      «first_value» = zero;
+      «first_threshold» = zero;
+      «first_llr» = zero;
+      «second_value» = zero;
+      «second_threshold» = zero;
+      «second_llr» = zero;
+      length = zero;
+    }
+
+-- The values of each case, those of a finding by its row: kind number, rectangle, facts, log odds, evidences, a fold's length.
+abbrev pub answerOf : FindingAt → FindingAtAnswer
+answerOf (Found f) = ofRow (rowOf f)
+answerOf Nothing = allZeros

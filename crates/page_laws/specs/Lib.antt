@@ -1,0 +1,2 @@
+-- What a reader of `detect`'s contract may conclude from it.
+pub mod Demand1

@@ -1,0 +1,1 @@
+// Laws for readers of a page's contract; there is nothing to run.
