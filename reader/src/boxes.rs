@@ -2,17 +2,17 @@
 
 use lanegravel_binding::boxes::{self, BoxesLists, Page};
 use lanegravel_binding::grids::{self, GridsLists};
+use lanegravel_binding::sets::members_of;
 
-use crate::answer::{Answer, accepted, marked, named_sets, sets};
+use crate::answer::{Refused, Text, accepted};
 use crate::fields::Fields;
+use crate::found::Marked;
+use crate::limits::GLYPHS;
+use crate::rulings::all_sets;
 
-/// The most records and entries that are lent: as many as any accepted page can use. Lending more
-/// would change no answer.
-pub const MOST_BOXES: usize = 16_384;
-
-pub fn boxes(fields: Fields) -> Answer {
+pub fn boxes(fields: Fields, text: &mut Text) -> Result<(), Refused> {
     let room = fields.room("boxes", fields.glyphs.len() / 4);
-    let mut lent = BoxesLists::with_room(room.min(MOST_BOXES));
+    let mut lent = BoxesLists::with_room(room.min(GLYPHS));
     let page = Page {
         width: fields.levelled.width,
         height: fields.levelled.height,
@@ -24,22 +24,29 @@ pub fn boxes(fields: Fields) -> Answer {
     };
     let answer = boxes::boxes(&page, &mut lent);
     accepted(answer.number)?;
-    let mut lines = format!("boxes {}\n", answer.count);
     let (rects, _) = lent.rects.as_chunks();
-    for (k, rect) in rects.iter().take(answer.count).enumerate() {
-        lines += &marked(*rect, lent.marks[k], lent.coverages[k]);
-    }
-    Ok(lines)
+    let marked = |k: usize| Marked {
+        rect: rects[k],
+        mark: lent.marks[k],
+        coverage: lent.coverages[k],
+    };
+    text.boxes(&(0..answer.count).map(marked).collect::<Vec<_>>());
+    Ok(())
 }
 
-pub fn grids(fields: Fields) -> Answer {
+pub fn grids(fields: Fields, text: &mut Text) -> Result<(), Refused> {
     let room = fields.room("index_glyphs", fields.boxes.len() / 4);
-    let mut lent = GridsLists::with_room(room.min(MOST_BOXES));
+    let mut lent = GridsLists::with_room(room.min(GLYPHS));
     let answer = grids::box_grids(fields.xheight, &fields.settings, &fields.boxes, &mut lent);
     accepted(answer.number)?;
     let ends = &lent.ends[..answer.sets];
     let numbers = &lent.numbers[..answer.grids];
-    Ok(named_sets("grid", numbers, &lent.members, ends)
-        + &sets("boxset", &lent.members, ends)
-        + &named_sets("readingorder", numbers, &lent.reading, ends))
+    let named = |members: &[u32]| -> Vec<Vec<u32>> {
+        let set = |set: &u32| members_of(members, ends, ends.len(), *set as usize).to_vec();
+        numbers.iter().map(set).collect()
+    };
+    text.sets("grid", &named(&lent.members));
+    text.sets("boxset", &all_sets(&lent.members, ends));
+    text.sets("readingorder", &named(&lent.reading));
+    Ok(())
 }

@@ -2,12 +2,14 @@
 
 use lanegravel_binding::layout::{self, Page};
 
-use crate::answer::{Answer, accepted, raster};
-use crate::fields::Fields;
+use crate::answer::{Refused, Text, accepted};
+use crate::fields::{Fields, Sides};
+use crate::limits::PLACES;
+use crate::rect::Rect;
 
 /// The most bytes that are lent as a levelled raster: one more than any accepted page has. Lending
 /// more would change no answer.
-pub const MOST_BYTES: usize = 8192 * 8192 + 1;
+pub const MOST_BYTES: usize = PLACES + 1;
 
 fn page(fields: &Fields) -> Page<'_> {
     Page {
@@ -21,28 +23,57 @@ fn page(fields: &Fields) -> Page<'_> {
     }
 }
 
-pub fn level(fields: Fields) -> Answer {
-    let asked = fields.levelled.width.saturating_mul(fields.levelled.height);
-    let room = fields.room("levelled", asked);
+pub fn level(fields: Fields, text: &mut Text) -> Result<(), Refused> {
+    let room = fields.room("levelled", fields.levelled.places());
     let mut levelled = vec![0; room.min(MOST_BYTES)];
     accepted(layout::level_gray(&page(&fields), &mut levelled))?;
-    Ok(raster("levelled", &levelled))
+    text.raster("levelled", &levelled);
+    Ok(())
 }
 
 /// Each rectangle in turn; the first one that is refused refuses the text.
-pub fn map(fields: Fields) -> Answer {
+pub fn map(fields: Fields, text: &mut Text) -> Result<(), Refused> {
     let page = page(&fields);
     let (rects, _) = fields.rects.as_chunks();
-    rects.iter().map(|rect| mapped(&page, *rect)).collect()
+    for rect in rects {
+        let area = page.rect_to_page(*rect)?;
+        let (x, y) = page.to_page(rect[0], rect[1])?;
+        text.place(x, y);
+        text.numbers("rect", &area);
+    }
+    Ok(())
 }
 
-fn mapped(page: &Page, rect: [u32; 4]) -> Answer {
-    let area = layout::rect_to_page(page, rect);
-    accepted(area.number)?;
-    let place = layout::to_page(page, rect[0], rect[1]);
-    accepted(place.number)?;
-    Ok(format!(
-        "place {} {}\nrect {} {} {} {}\n",
-        place.x, place.y, area.x0, area.y0, area.x1, area.y1
-    ))
+/// The way from the levelled picture of an accepted page back to the page.
+#[derive(Debug)]
+pub struct Map {
+    page: Sides,
+    levelled: Sides,
+    shear: Vec<i32>,
+    shear_x: Vec<i32>,
+}
+
+impl Map {
+    pub fn new(page: Sides, levelled: Sides, shear: Vec<i32>, shear_x: Vec<i32>) -> Self {
+        Map {
+            page,
+            levelled,
+            shear,
+            shear_x,
+        }
+    }
+
+    /// The rectangle on the page of a levelled rectangle.
+    pub fn on_page(&self, rect: Rect) -> Rect {
+        let page = Page {
+            page_width: self.page.width,
+            page_height: self.page.height,
+            width: self.levelled.width,
+            height: self.levelled.height,
+            gray: &[],
+            shear: &self.shear,
+            shear_x: &self.shear_x,
+        };
+        page.rect_to_page(rect).unwrap_or_default()
+    }
 }

@@ -1,69 +1,96 @@
-//! The command-line reader: texts on standard input, answers on standard output.
+//! The command-line reader: texts in, answers on standard output.
 
 use std::env;
-use std::io::{self, Write};
+use std::fs::File;
+use std::io::{self, BufReader, IsTerminal, Write};
+use std::path::{Path, PathBuf};
 use std::process::ExitCode;
 
-use lanegravel_reader::{Failure, answer_all};
+use lanegravel_reader::Failure;
+use lanegravel_reader::files::Context;
+use lanegravel_reader::options::{Answering, HELP, Task, task};
+use lanegravel_reader::run::Run;
+use lanegravel_reader::settings::SettingsFile;
+use lanegravel_reader::{card, example};
 
-const HELP: &str = "\
-lanegravel: finds ruled tables and answer boxes on a scanned questionnaire
-
-  lanegravel [--sets] < TEXTS      answer each text on standard input, in order
-  lanegravel --help                print this
-
-Reads page texts (`lanegravel-page 1` .. `end`) and texts of smaller calls
-(`lanegravel-call 1`, `call NAME` .. `end`), one after the other, and writes an
-answer text for each (`lanegravel-answer 1` .. `end`). docs/FORMAT.md describes
-both. A refused text is an answer: it names the first question that was missed.
-
-  --sets   in the answer to a page, list the closed sets too
-
-Calls: level, segments, tables, boxes, grids, map and sum.
-
-Exit status:
-  0  every text was answered
-  1  bad arguments, or building, reading or writing failed
-  2  a text is not of the form: standard error says on which line and why
-On 1 and 2 the answers to the texts before it have been written, nothing is
-written for it, and what follows it is not read.
-
-Example: 1.0 + 2.0, a float as the hex digits of its 64 bits
-
-  printf '%s\\n' 'lanegravel-call 1' 'call sum' \\
-    'values 2 3ff0000000000000 4000000000000000' end | ./lanegravel
-
-  lanegravel-answer 1
-  accepted
-  sum 4008000000000000
-  end
-";
+/// As much as a pipe hands over at once, and more.
+const BUFFER: usize = 1 << 18;
 
 fn main() -> ExitCode {
-    let mut sets = false;
-    for argument in env::args_os().skip(1) {
-        match argument.to_str() {
-            Some("--help") => return report(help()),
-            Some("--sets") => sets = true,
-            _ => {
-                eprintln!("unknown argument {argument:?}; --help says which there are");
-                return ExitCode::from(1);
-            }
+    let outcome = match task(env::args_os().skip(1)) {
+        Ok(Task::Help) => print(HELP),
+        Ok(Task::Version) => print(&format!("lanegravel {}\n", env!("CARGO_PKG_VERSION"))),
+        Ok(Task::Card) => print(&card::markdown()),
+        Ok(Task::Example(seed)) => print(&example::text(seed)),
+        Ok(Task::Answer(asked)) => answer(asked),
+        Err(message) => {
+            say(&message);
+            return ExitCode::from(1);
         }
-    }
-    report(answer_all(io::stdin().lock(), io::stdout().lock(), sets))
-}
-
-fn help() -> Result<(), Failure> {
-    Ok(io::stdout().write_all(HELP.as_bytes())?)
-}
-
-fn report(outcome: Result<(), Failure>) -> ExitCode {
+    };
     match outcome {
         Ok(()) => ExitCode::SUCCESS,
         Err(failure) => {
-            eprintln!("{failure}");
+            if !failure.is_closed_pipe() {
+                say(&failure.to_string());
+            }
             ExitCode::from(failure.status())
         }
     }
+}
+
+/// On standard error, which may be closed or full: then nobody is told.
+fn say(message: &str) {
+    let _ = writeln!(io::stderr(), "{message}");
+}
+
+fn print(text: &str) -> Result<(), Failure> {
+    let mut out = io::stdout().lock();
+    let written = out.write_all(text.as_bytes());
+    written.and_then(|()| out.flush()).map_err(Failure::Output)
+}
+
+fn answer(asked: Answering) -> Result<(), Failure> {
+    let settings = asked.settings.as_deref().map(|path| {
+        let name = path.to_string_lossy();
+        SettingsFile::open(path, &name)
+    });
+    let mut context = Context {
+        folder: PathBuf::new(),
+        settings: settings.transpose()?,
+    };
+    let mut run = Run::new(io::stdout().lock(), asked.wanted);
+    let outcome = if asked.files.is_empty() {
+        if io::stdin().is_terminal() {
+            say("reading texts from the terminal; --help says what else there is");
+        }
+        run.answer_all(standard_input(), &context)
+    } else {
+        let mut files = asked.files.iter();
+        files.try_for_each(|file| answer_file(&mut run, file, &mut context))
+    };
+    run.end();
+    outcome
+}
+
+fn answer_file<W: Write>(
+    run: &mut Run<W>,
+    file: &Path,
+    context: &mut Context,
+) -> Result<(), Failure> {
+    if file == Path::new("-") {
+        context.folder = PathBuf::new();
+        return run.answer_all(standard_input(), context);
+    }
+    context.folder = file.parent().map(PathBuf::from).unwrap_or_default();
+    let opened = File::open(file).map_err(Failure::from);
+    let answered = opened.and_then(|opened| {
+        let input = BufReader::with_capacity(BUFFER, opened);
+        run.answer_all(input, context)
+    });
+    answered.map_err(|failure| failure.of_file(file.to_string_lossy()))
+}
+
+fn standard_input() -> BufReader<io::StdinLock<'static>> {
+    BufReader::with_capacity(BUFFER, io::stdin().lock())
 }

@@ -1,70 +1,52 @@
-//! The page text: everything of one page.
+//! A page: everything of it in one call.
 
+use lanegravel_binding as library;
 use lanegravel_binding::workspace::Room;
-use lanegravel_binding::{Evidence, Finding, Found, FusionParams, Page, Workspace};
+use lanegravel_binding::{FusionParams, Page, Workspace};
 
-use crate::answer::{Answer, float, list, marked, named_sets, raster, ruling, sets, table};
-use crate::boxes::MOST_BOXES;
-use crate::fields::{Fields, Kind};
-use crate::levelling::MOST_BYTES;
-use crate::rulings::MOST_RULINGS;
+use crate::answer::Refused;
+use crate::fields::Fields;
+use crate::found::{Evidence, Facts, Finding, Found, Grid, Marked, Ruling, Sets, Table};
+use crate::levelling::{MOST_BYTES, Map};
+use crate::limits::{GLYPHS, PIECES};
 
-pub const PAGE: Kind = Kind {
-    name: "page",
-    keys: &[
-        "page",
-        "levelled",
-        "dpi",
-        "xheight",
-        "shear",
-        "shear_x",
-        "pieces",
-        "glyphs",
-        "llr_clip",
-        "group_cap",
-        "gray",
-        "ink",
-    ],
-    settings: true,
-    rooms: &[
-        "levelled",
-        "rulings",
-        "tables",
-        "boxes",
-        "findings",
-        "index_pieces",
-        "index_glyphs",
-    ],
-    answer: page,
-};
-
-fn page(fields: Fields) -> Answer {
+/// The library's answer to a page, with the closed sets or without.
+pub fn page(fields: Fields, sets: bool) -> Result<Found, Refused> {
     let mut lent = Workspace::with_room(&room(&fields));
     let found = lent.detect_as_lent(&given(&fields))?;
-    let mut lines = raster("levelled", found.levelled());
-    lines += &ruling_lines(found);
-    lines += &box_lines(found);
-    lines += &finding_lines(found);
-    if fields.sets {
-        lines += &set_lines(found);
-    }
-    Ok(lines)
+    let mut answer = Found {
+        page: fields.page,
+        levelled_sides: fields.levelled,
+        dpi: fields.dpi,
+        levelled: Vec::new(),
+        map: Map::new(fields.page, fields.levelled, fields.shear, fields.shear_x),
+        gray: fields.gray,
+        rulings: found.rulings().map(ruling).collect(),
+        printed: found.printed().to_vec(),
+        faint: found.faint().to_vec(),
+        tables: found.tables().map(table).collect(),
+        free: found.free().to_vec(),
+        boxes: found.boxes().map(marked).collect(),
+        grids: found.grids().map(grid).collect(),
+        findings: found.findings().map(finding).collect(),
+        sets: sets.then(|| closed_sets(found)),
+    };
+    answer.levelled = std::mem::take(&mut lent.levelled);
+    Ok(answer)
 }
 
 /// What is lent, and no more than any accepted page can use.
 fn room(fields: &Fields) -> Room {
     let (pieces, glyphs) = (fields.pieces.len() / 4, fields.glyphs.len() / 4);
-    let places = fields.levelled.width.saturating_mul(fields.levelled.height);
     let lent = |name, asked, most| fields.room(name, asked).min(most);
-    let both = MOST_RULINGS + MOST_BOXES;
     Room {
-        levelled: lent("levelled", places, MOST_BYTES),
-        rulings: lent("rulings", pieces, MOST_RULINGS),
-        tables: lent("tables", pieces, MOST_RULINGS),
-        boxes: lent("boxes", glyphs, MOST_BOXES),
-        findings: lent("findings", pieces + glyphs, both),
-        index_pieces: lent("index_pieces", pieces, MOST_RULINGS),
-        index_glyphs: lent("index_glyphs", glyphs, MOST_BOXES),
+        levelled: lent("levelled", fields.levelled.places(), MOST_BYTES),
+        rulings: lent("rulings", pieces, PIECES),
+        tables: lent("tables", pieces, PIECES),
+        boxes: lent("boxes", glyphs, GLYPHS),
+        findings: lent("findings", pieces + glyphs, PIECES + GLYPHS),
+        index_pieces: lent("index_pieces", pieces, PIECES),
+        index_glyphs: lent("index_glyphs", glyphs, GLYPHS),
     }
 }
 
@@ -90,91 +72,95 @@ fn given(fields: &Fields) -> Page<'_> {
     }
 }
 
-/// Rulings, how many are printed and faint, tables, and the free list.
-fn ruling_lines(found: Found) -> String {
-    let mut lines = format!("rulings {}\n", found.rulings().len());
-    for r in found.rulings() {
-        lines += &ruling(r.rect, r.direction.number(), r.contrast);
+fn ruling(r: library::Ruling) -> Ruling {
+    Ruling {
+        rect: r.rect,
+        direction: r.direction.number(),
+        contrast: r.contrast,
     }
-    let (printed, faint) = (found.printed().len(), found.faint().len());
-    lines += &format!("printed {printed}\nfaint {faint}\n");
-    lines += &format!("tables {}\n", found.tables().len());
-    for t in found.tables() {
-        lines += &table(t.rect, [t.rows, t.columns, t.rulings], t.share);
-    }
-    lines + &list("free", found.free())
 }
 
-/// Boxes and grids.
-fn box_lines(found: Found) -> String {
-    let mut lines = format!("boxes {}\n", found.boxes().len());
-    for b in found.boxes() {
-        lines += &marked(b.rect, b.ticked.into(), b.coverage);
+fn table(t: library::Table) -> Table {
+    Table {
+        rect: t.rect,
+        rows: t.rows,
+        columns: t.columns,
+        rulings: t.rulings,
+        share: t.share,
     }
-    let (numbers, ends) = grids(found);
-    lines + &named_sets("grid", numbers, &found.lists().box_members, ends)
 }
 
-/// The numbers of the grids' sets, and the ends of all sets of boxes.
-fn grids<'a>(found: Found<'a>) -> (&'a [u32], &'a [u32]) {
-    let (lists, counts) = (found.lists(), found.counts());
-    let ends = &lists.box_ends[..counts.box_sets];
-    (&lists.grid_numbers[..counts.grids], ends)
+fn marked(b: library::AnswerBox) -> Marked {
+    Marked {
+        rect: b.rect,
+        mark: b.ticked.into(),
+        coverage: b.coverage,
+    }
 }
 
-/// The counts, and the findings with their evidence.
-fn finding_lines(found: Found) -> String {
-    let a = found.counts();
-    let counts = [a.rulings, a.printed, a.faint, a.tables, a.boxes, a.grids];
-    let mut lines = format!("counts {}\n", counts.map(|n| n.to_string()).join(" "));
-    lines += &format!("findings {}\n", a.findings);
-    for finding in found.findings() {
-        lines += &finding_line(&finding);
-        for evidence in finding.evidence() {
-            lines += &evidence_line(evidence);
-        }
+fn grid(g: library::Grid) -> Grid {
+    Grid {
+        members: g.members.to_vec(),
+        reading: g.reading.to_vec(),
     }
-    lines
 }
 
 /// A finding with the facts that its kind has.
-fn finding_line(finding: &Finding) -> String {
-    let facts = match *finding {
-        Finding::Table {
+fn finding(f: library::Finding) -> Finding {
+    let facts = match f {
+        library::Finding::Table {
             rows,
             columns,
             rulings,
             ..
-        } => format!("{rows} {columns} {rulings}"),
-        Finding::FreeRules {
+        } => Facts::Table {
+            rows,
+            columns,
+            rulings,
+        },
+        library::Finding::FreeRules {
             horizontal,
             vertical,
             longest,
             ..
-        } => format!("{horizontal} {vertical} {longest}"),
-        Finding::Grid { boxes, ticked, .. } => format!("{boxes} {ticked}"),
-        Finding::Fold {
+        } => Facts::FreeRules {
+            horizontal,
+            vertical,
+            longest,
+        },
+        library::Finding::Grid { boxes, ticked, .. } => Facts::Grid { boxes, ticked },
+        library::Finding::Fold {
             direction, length, ..
-        } => format!("{} {}", direction.number(), float(length)),
+        } => Facts::Fold {
+            direction: direction.number(),
+            length,
+        },
     };
-    let (kind, log_odds) = (finding.kind(), float(finding.log_odds()));
-    let [x0, y0, x1, y1] = finding.rect();
-    format!("finding {kind} {x0} {y0} {x1} {y1} {log_odds} {facts}\n")
+    Finding {
+        rect: f.rect(),
+        log_odds: f.log_odds(),
+        first: evidence(&f.evidence()[0]),
+        second: f.evidence().get(1).map(evidence),
+        facts,
+    }
 }
 
-fn evidence_line(e: &Evidence) -> String {
-    let [value, threshold, llr] = [e.value, e.threshold, e.llr].map(float);
-    format!("evidence {value} {threshold} {llr}\n")
+fn evidence(e: &library::Evidence) -> Evidence {
+    Evidence {
+        value: e.value,
+        threshold: e.threshold,
+        llr: e.llr,
+    }
 }
 
-/// The closed sets, and the reading order of each grid.
-fn set_lines(found: Found) -> String {
-    let (lists, counts) = (found.lists(), found.counts());
-    let piece_ends = &lists.piece_ends[..counts.rulings];
-    let printed_ends = &lists.printed_ends[..counts.printed_sets];
-    let (numbers, box_ends) = grids(found);
-    sets("pieceset", &lists.piece_members, piece_ends)
-        + &sets("printedset", &lists.printed_members, printed_ends)
-        + &sets("boxset", &lists.box_members, box_ends)
-        + &named_sets("readingorder", numbers, &lists.reading, box_ends)
+fn closed_sets(found: library::Found) -> Sets {
+    let counts = found.counts();
+    let pieces = (0..counts.rulings).map(|set| found.piece_set(set).to_vec());
+    let printed = (0..counts.printed_sets).map(|set| found.printed_set(set).to_vec());
+    let boxes = (0..counts.box_sets).map(|set| found.box_set(set).to_vec());
+    Sets {
+        pieces: pieces.collect(),
+        printed: printed.collect(),
+        boxes: boxes.collect(),
+    }
 }

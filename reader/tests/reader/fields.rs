@@ -1,7 +1,8 @@
 //! What the lines of a text say.
 
 use lanegravel_reader::fields::{Fields, read};
-use lanegravel_reader::page::PAGE;
+use lanegravel_reader::files::Context;
+use lanegravel_reader::kinds;
 use lanegravel_reader::settings::{COUNT_SETTINGS, FLOAT_SETTINGS};
 use lanegravel_reader::text::Lines;
 
@@ -9,8 +10,10 @@ use crate::run::page;
 
 /// The fields of a page with these lines.
 fn fields(lines: &[String]) -> Fields {
-    let text = lines[1..].join("\n") + "\n";
-    let fields = read(&mut Lines::new(text.as_bytes()), &PAGE);
+    let text = lines.join("\n") + "\n";
+    let mut lines = Lines::new(text.as_bytes());
+    let page = kinds::next(&mut lines).ok().flatten().expect("a page");
+    let fields = read(&mut lines, page, &Context::default());
     fields.unwrap_or_else(|failure| panic!("{failure}"))
 }
 
@@ -94,4 +97,27 @@ fn the_ends_of_each_type_fit() {
     assert_eq!(fields.pieces, [u32::MAX, 0, 0]);
     assert_eq!(fields.settings.grid_min_boxes, u32::MAX);
     assert_eq!(fields.rooms["findings"], usize::MAX);
+}
+
+#[test]
+fn floats_are_bits_or_decimals() {
+    let mut lines = page();
+    lines[4] = "xheight 20".into();
+    lines[9] = "llr_clip -1.5e-3".into();
+    lines[13] = "setting merge_across_xh 0.1".into();
+    let fields = fields(&lines);
+    assert_eq!((fields.xheight, fields.llr_clip), (20.0, -0.0015));
+    assert_eq!(fields.settings.merge_across_xh, 0.1);
+}
+
+#[test]
+fn lists_are_held_to_one_entry_past_their_limit() {
+    let mut lines = page();
+    lines[5] = format!("shear 10000{}", " 1".repeat(10_000));
+    lines[7] = format!("pieces 20000{}", " 1".repeat(20_000));
+    lines[8] = format!("glyphs 70000{}", " 1".repeat(70_000));
+    let fields = fields(&lines);
+    assert_eq!(fields.shear.len(), 8_193);
+    assert_eq!(fields.pieces.len(), 16_385);
+    assert_eq!(fields.glyphs.len(), 65_537);
 }

@@ -1,6 +1,10 @@
 //! Pages that are answered: the lines in their order, with the closed sets and without, and the room.
 
-use crate::run::{page, run, run_with};
+use lanegravel_reader::answer::Floats;
+use lanegravel_reader::files::Context;
+use lanegravel_reader::run::Wanted;
+
+use crate::run::{page, run, run_for};
 
 /// The page of two pixels, without its miss. Its one piece is the whole picture, a ruling that is free:
 /// its contrast is 255, as there is no paper beside it, less the mean of 10 and 255.
@@ -26,7 +30,11 @@ fn a_page_is_answered() {
     let (written, failure) = run(&(text.clone() + &text));
     assert_eq!(written, format!("{ANSWER}end\n{ANSWER}end\n"));
     assert!(failure.is_none());
-    let (written, failure) = run_with(&text, true);
+    let wanted = Wanted {
+        sets: true,
+        ..Wanted::default()
+    };
+    let (written, failure) = run_for(&text, wanted, &Context::default());
     assert_eq!(written, format!("{ANSWER}{SETS}end\n"));
     assert!(failure.is_none());
 }
@@ -55,5 +63,33 @@ fn each_room_is_asked_for() {
             format!("{ANSWER}end\n")
         };
         assert_eq!(written, expected, "{room}");
+    }
+}
+
+#[test]
+fn floats_are_written_as_decimals_where_that_is_wanted() {
+    let wanted = Wanted {
+        floats: Floats::Decimal,
+        ..Wanted::default()
+    };
+    let text = accepted().join("\n") + "\n";
+    let (written, _) = run_for(&text, wanted, &Context::default());
+    assert!(written.contains("\nruling 0 0 1 1 0 122.5\n"), "{written}");
+    assert!(written.contains("\nfinding 17 0 0 1 0 2.0 1 0 2\nevidence 1.0 0.0 1.0\n"));
+    assert!(written.contains("\nlevelled 4 374370cf64d8162c\n"));
+}
+
+#[test]
+fn lists_past_every_limit_are_answered_by_their_questions() {
+    for (line, text, number) in [
+        (5, format!("shear 10000{}", " 0".repeat(10_000)), 3),
+        (7, format!("pieces 20000{}", " 0".repeat(20_000)), 5),
+        (8, format!("glyphs 70000{}", " 0".repeat(70_000)), 5),
+    ] {
+        let mut lines = accepted();
+        lines[line] = text;
+        let (written, _) = run(&(lines.join("\n") + "\n"));
+        let expected = format!("lanegravel-answer 1\nrefused {number}\nend\n");
+        assert_eq!(written, expected, "line {line}");
     }
 }

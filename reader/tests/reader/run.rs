@@ -1,18 +1,25 @@
 //! Runs the reader over texts, and says what it must make of them.
 
+use std::io::BufReader;
+
+use lanegravel_reader::Failure;
+use lanegravel_reader::files::Context;
+use lanegravel_reader::run::{Run, Wanted};
 use lanegravel_reader::settings::{COUNT_SETTINGS, FLOAT_SETTINGS};
-use lanegravel_reader::{Failure, answer_all};
 
 /// What the reader writes, and the failure that stops it.
 pub fn run(input: &str) -> (String, Option<Failure>) {
-    run_with(input, false)
+    run_for(input, Wanted::default(), &Context::default())
 }
 
-/// The same, with the closed sets of pages or without.
-pub fn run_with(input: &str, sets: bool) -> (String, Option<Failure>) {
+/// The same, of what is wanted. The input comes in small parts, so that words lie across their ends.
+pub fn run_for(input: &str, wanted: Wanted, context: &Context) -> (String, Option<Failure>) {
     let mut output = Vec::new();
-    let failure = answer_all(input.as_bytes(), &mut output, sets).err();
-    let written = String::from_utf8(output).expect("answers are ASCII");
+    let parts = BufReader::with_capacity(7, input.as_bytes());
+    let failure = Run::new(&mut output, wanted)
+        .answer_all(parts, context)
+        .err();
+    let written = String::from_utf8(output).expect("what is written is UTF-8");
     (written, failure)
 }
 

@@ -1,6 +1,6 @@
 //! Lines whose values are not of the form.
 
-use crate::run::{call_malformed, line_malformed};
+use crate::run::{call_malformed, line_malformed, page_with};
 
 #[test]
 fn words() {
@@ -73,27 +73,54 @@ fn whole_numbers() {
 
 #[test]
 fn floats() {
-    let short = "is not a float of 16 hex digits";
-    line_malformed(5, "xheight 1.0", &format!("xheight: `1.0` {short}"));
-    line_malformed(
-        5,
-        "xheight 40340000000000000",
-        &format!("xheight: `40340000000000000` {short}"),
-    );
-    line_malformed(
-        5,
-        "xheight 7FF8000000000000",
-        "xheight: `F` is not a lowercase hex digit",
-    );
-    line_malformed(
-        5,
-        "xheight 0x34000000000000",
-        "xheight: `x` is not a lowercase hex digit",
-    );
+    let none = "is not a float: 16 lowercase hex digits, or a decimal number";
+    for word in [
+        "inf",
+        "NaN",
+        "+1.0",
+        "1.",
+        "0x34000000000000",
+        "7FF8000000000000",
+        "-",
+    ] {
+        line_malformed(
+            5,
+            &format!("xheight {word}"),
+            &format!("xheight: `{word}` {none}"),
+        );
+    }
     line_malformed(
         14,
-        "setting merge_across_xh 2",
-        &format!("setting merge_across_xh: `2` {short}"),
+        "setting merge_across_xh 3ff000000000000g",
+        &format!("setting merge_across_xh: `3ff000000000000g` {none}"),
+    );
+}
+
+#[test]
+fn words_that_are_too_long() {
+    let long = "1".repeat(1025);
+    let start = &long[..40];
+    let more = "has more than 1024 characters";
+    line_malformed(
+        5,
+        &format!("xheight {long}"),
+        &format!("xheight: `{start}..` {more}"),
+    );
+    line_malformed(9, &format!("{long} 0"), &format!("`{start}..` {more}"));
+    let zeros = format!("dpi {}300", "0".repeat(1021));
+    let (written, _) = crate::run::run(&page_with(4, &zeros));
+    assert_eq!(written, "lanegravel-answer 1\nrefused 4\nend\n");
+}
+
+#[test]
+fn lists_that_no_question_bounds() {
+    call_malformed(
+        "call map\nrects 4194308 0\nend",
+        "line 3: rects: 4194308 announced, at most 4194304 may be",
+    );
+    call_malformed(
+        "call sum\nvalues 16777217 0\nend",
+        "line 3: values: 16777217 announced, at most 16777216 may be",
     );
 }
 
