@@ -1,19 +1,19 @@
 // The stored calls about levelling: the page's sides and the levelled picture's, then the shear tables, the
 // grey raster and up to four numbers, each a list. No table has more than 64 entries, and no raster more
 // than 256 bytes.
-use crate::floats;
-use crate::words;
-use crate::written;
 use layout::calls;
 use layout::calls::Mapped;
 use layout::calls::MappedRect;
 use layout::page::Levelled;
 use layout::sides::Sides;
 use rects::Rect;
+use stored::floats;
+use stored::words;
+use stored::written;
 
 // Answers the call of this number that goes on at `at`, and returns the place past it.
 pub fn page(text: &[u8], at: usize, call: u64) -> usize {
-    let given = read_sides(text, at);
+    let given = stored::sides::read(text, at);
     let mut shear = [0i32; 64];
     let mut shear_x = [0i32; 64];
     let mut gray = [0u8; 256];
@@ -34,28 +34,6 @@ pub fn page(text: &[u8], at: usize, call: u64) -> usize {
         &numbers,
     );
     n.next
-}
-
-// The sides, and the place past them.
-struct Given {
-    sides: Sides,
-    next: usize,
-}
-
-fn read_sides(text: &[u8], at: usize) -> Given {
-    let pw = words::read_word(text, at);
-    let ph = words::read_word(text, pw.next);
-    let w = words::read_word(text, ph.next);
-    let h = words::read_word(text, w.next);
-    Given {
-        sides: Sides {
-            pw: pw.value as usize,
-            ph: ph.value as usize,
-            w: w.value as usize,
-            h: h.value as usize,
-        },
-        next: h.next,
-    }
 }
 
 // The numbers are the room for the raster, a place, or a rectangle. The raster is lent with 7 in it.

@@ -8,7 +8,8 @@
 // What is the driver's own: the number of the first missed question, and what a refused page answers beside
 // it; the closed sets, by a flood fill (the ends and members of 5, 6 and 8, the set numbers of 6 and 8),
 // and the reading order of 8, by a plain sort. The sets that 8 names as grids are those that the Rust finds.
-use words::Word;
+use stored::words;
+use stored::words::Word;
 
 mod floats;
 mod glyphs;
@@ -18,8 +19,6 @@ mod pieces;
 mod rulings;
 mod settings;
 mod squares;
-mod words;
-mod written;
 
 fn main() {
     let mut text = [0u8; 262144];

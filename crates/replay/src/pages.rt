@@ -7,7 +7,7 @@ use crate::rulings;
 use crate::settings;
 use crate::settings::Given;
 use crate::squares;
-use crate::words;
+use stored::words;
 
 // Answers the call of this number that goes on at `at`, and returns the place past it.
 pub fn page(text: &[u8], at: usize, call: u64) -> usize {

@@ -1,7 +1,7 @@
 // Answers to `segments`. Every list is lent whole.
 use crate::settings::Given;
-use crate::words;
-use crate::written;
+use stored::words;
+use stored::written;
 
 // Writes the number and the count of rulings, then their rectangles, directions, contrasts and ends,
 // and the n members.

@@ -1,7 +1,7 @@
 // Answers to `tables`. Every list is lent whole.
 use crate::settings::Given;
-use crate::words;
-use crate::written;
+use stored::words;
+use stored::written;
 
 // Writes the number and the count of tables, and for each its set's number, rectangle, rows, columns,
 // rulings and share, list by list.

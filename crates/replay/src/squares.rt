@@ -1,6 +1,6 @@
 // Answers to `box_grids`. Every list is lent whole.
 use crate::settings::Given;
-use crate::written;
+use stored::written;
 
 // Writes the number; the set numbers of the grids and the ends of the sets, each behind its count; the
 // members and the reading order.

@@ -5,8 +5,8 @@ use borrow.Author.Needs.{needs}
 use Rattle.replay.proofs.levelling.page.Statement.{statement}
 use Rattle.replay.proofs.levelling.page.Tie as tie
 
-read-sides-requires : tie.Need-read-sides-requires
-read-sides-requires c κs = search needs
+read-requires : tie.Need-read-requires
+read-requires c κs = search needs
 
 read-word-requires : tie.Need-read-word-requires
 read-word-requires c κs = search needs
@@ -69,4 +69,4 @@ returns : tie.Need-returns
 returns c = search needs
 
 pub page-spec : {M : Type 1} → statement M
-page-spec = tie.close (tie.spec read-sides-requires read-word-requires slice-aggregate-read-signed read-signed-requires read-word-requires-2 slice-aggregate-read-signed-2 read-signed-requires-2 read-word-requires-3 slice-aggregate-read-bytes read-bytes-requires read-word-requires-4 slice-aggregate-read-wholes read-wholes-requires array-share-prefix-shear slice-aggregate-answer array-share-prefix-shear-x slice-aggregate-answer-2 array-share-prefix-gray slice-aggregate-answer-3 answer-requires returns)
+page-spec = tie.close (tie.spec read-requires read-word-requires slice-aggregate-read-signed read-signed-requires read-word-requires-2 slice-aggregate-read-signed-2 read-signed-requires-2 read-word-requires-3 slice-aggregate-read-bytes read-bytes-requires read-word-requires-4 slice-aggregate-read-wholes read-wholes-requires array-share-prefix-shear slice-aggregate-answer array-share-prefix-shear-x slice-aggregate-answer-2 array-share-prefix-gray slice-aggregate-answer-3 answer-requires returns)

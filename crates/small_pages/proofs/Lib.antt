@@ -1,0 +1,2 @@
+-- Why an array of lent lists owns what its elements do.
+mod Arrays
