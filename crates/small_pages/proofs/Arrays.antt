@@ -1,4 +1,4 @@
--- What the elements own is what the array of them owns. Assumes nothing.
+-- What the elements own is what the array of them owns.
 use mathlib.Core.Path.{refl}
 use mathlib.Core.List.{[], _∷_, List}
 use lib.ListN.{length}

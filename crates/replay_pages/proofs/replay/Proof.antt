@@ -1,4 +1,4 @@
--- `replay_pages::replay` ends: the turns are counted down. Assumes nothing.
+-- `replay_pages::replay` ends: the turns are counted down.
 use native.Mathlib.Omega.{arith}
 use mathlib.Core.Logic.{⊎-elim}
 use borrow.Author.Needs.{needs}

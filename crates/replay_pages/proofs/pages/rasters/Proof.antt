@@ -1,4 +1,4 @@
--- `replay_pages::pages::rasters` is safe: no list has read more entries than it has room for. Assumes nothing.
+-- `replay_pages::pages::rasters` is safe: no list has read more entries than it has room for.
 use mathlib.Core.Path.{sym}
 use lib.Seq.{length-take-le}
 use borrow.Author.Needs.{needs}

@@ -1,4 +1,4 @@
--- `samples::form::mark_ink` is safe, and keeps the list's length. Assumes nothing.
+-- `samples::form::mark_ink` is safe, and keeps the list's length.
 use mathlib.Core.Path.{_≡_, refl}
 use Prim.Native.Nat.{_-_}
 use native.Mathlib.Omega.{arith}

@@ -1,4 +1,4 @@
--- `small_pages::bundles::two` meets its contract: a walk of its MIR, by hand. Each borrow goes into the array as it is. Assumes nothing.
+-- `small_pages::bundles::two` meets its contract: a walk of its MIR, by hand. Each borrow goes into the array as it is.
 use mathlib.Core.Path.{refl}
 use Prim.Native.Nat.{ℕ}
 use mathlib.Core.List.{[], _∷_, List}

@@ -1,4 +1,4 @@
--- `small_pages::found::detect` is safe: what it lends of the raster is no longer than the list. Assumes nothing.
+-- `small_pages::found::detect` is safe: what it lends of the raster is no longer than the list.
 use mathlib.Core.Path.{sym}
 use lib.Seq.{length-take-le}
 use borrow.Author.Needs.{needs}

@@ -1,4 +1,4 @@
--- `small_pages::lend::lend` is safe: nothing that it calls asks anything. Assumes nothing.
+-- `small_pages::lend::lend` is safe: nothing that it calls asks anything.
 use Rattle.small_pages.proofs.lend.lend.Statement.{statement}
 use Rattle.small_pages.proofs.lend.lend.Tie as tie
 
