@@ -3,8 +3,8 @@ use crate::bundles;
 use crate::counts;
 use crate::given::Given;
 
-// Reads the page into the lists, and its answer into `counts`. All lists are lent for one lifetime, which the
-// result names: an array of lent lists has one.
+// Reads the page into the lists, and its answer into `counts`. An array of lent lists has one lifetime, so all lists
+// are lent for one. The result names it, so that the lists are spent here; it holds nothing that isn't in `levelled`.
 pub fn lend<'a>(
     given: Given,
     gray: &[u8],
