@@ -1,10 +1,8 @@
 // The sample forms of document 01 that are tried by running, and the five slips seen in such ports.
-// `stdout` has a line for each, and every one of them ends in "yes". Behind them stands what is found on one form.
+// `stdout` has a line for each, and every one of them ends in "yes".
 mod answer_boxes;
 mod contrast;
 mod floats;
-mod form;
-mod form_shown;
 mod joining;
 mod ruled_tables;
 mod settings;
@@ -15,7 +13,6 @@ fn main() {
     answer_boxes::run();
     joining::run();
     ruled_tables::run();
-    form::run();
 }
 
 // Writes a line: what was tried, and whether it came out right.

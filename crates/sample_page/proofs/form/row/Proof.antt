@@ -1,9 +1,9 @@
--- `samples::form::row` is safe: a row ends within the page.
+-- `sample_page::form::row` is safe: a row ends within the page. Assumes nothing.
 use Prim.Native.Nat.{_-_}
 use native.Mathlib.Omega.{arith}
 use borrow.Author.Needs.{needs}
-use Rattle.samples.proofs.form.row.Statement.{statement}
-use Rattle.samples.proofs.form.row.Tie as tie
+use Rattle.sample_page.proofs.form.row.Statement.{statement}
+use Rattle.sample_page.proofs.form.row.Tie as tie
 
 abbrev Inv-loop : tie.InvT-loop
 Inv-loop gray₀ at places x₀ gray x = Unit

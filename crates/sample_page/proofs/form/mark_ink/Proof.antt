@@ -1,11 +1,11 @@
--- `samples::form::mark_ink` is safe, and keeps the list's length.
+-- `sample_page::form::mark_ink` is safe, and keeps the list's length. Assumes nothing.
 use mathlib.Core.Path.{_≡_, refl}
 use Prim.Native.Nat.{_-_}
 use native.Mathlib.Omega.{arith}
 use lib.ListN.{length, length-set}
 use borrow.Author.Needs.{needs}
-use Rattle.samples.proofs.form.mark_ink.Statement.{statement}
-use Rattle.samples.proofs.form.mark_ink.Tie as tie
+use Rattle.sample_page.proofs.form.mark_ink.Statement.{statement}
+use Rattle.sample_page.proofs.form.mark_ink.Tie as tie
 
 abbrev Inv-loop : tie.InvT-loop
 Inv-loop ink₀ k₀ ink k = length ink ≡ length ink₀
