@@ -1,4 +1,4 @@
--- What the walks of `bundles` share: the type and the value of a lent list, and that what the elements own is what the array of them owns. Assumes nothing.
+-- What the walks of `bundles` share: the type and the value of a lent list, and that what the elements own is what the array of them owns.
 use mathlib.Core.Path.{refl}
 use mathlib.Core.List.{[], _∷_, List}
 use lib.ListN.{length}

@@ -1,4 +1,4 @@
--- `sample_page::form::mark_ink` is safe, and keeps the list's length. Assumes nothing.
+-- `sample_page::form::mark_ink` is safe, and keeps the list's length.
 use mathlib.Core.Path.{_≡_, refl}
 use Prim.Native.Nat.{_-_}
 use native.Mathlib.Omega.{arith}

@@ -1,4 +1,4 @@
--- `sample_page::form::row` is safe: a row ends within the page. Assumes nothing.
+-- `sample_page::form::row` is safe: a row ends within the page.
 use Prim.Native.Nat.{_-_}
 use native.Mathlib.Omega.{arith}
 use borrow.Author.Needs.{needs}

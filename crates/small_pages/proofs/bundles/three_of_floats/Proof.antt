@@ -1,4 +1,4 @@
--- `small_pages::bundles::three_of_floats` meets its contract, by the walk for any element. Assumes nothing.
+-- `small_pages::bundles::three_of_floats` meets its contract, by the walk for any element.
 use lib.Ieee.{binary64}
 use mir.Syntax.{tyFloat}
 use contract.Running.{givenOf, tables, tablesOf}
