@@ -77,7 +77,9 @@ is-printed-requires : tie.Need-is-printed-requires Inv-loop μ-loop
 is-printed-requires c κs = tt
 
 cast-printed : tie.Need-cast-printed Inv-loop μ-loop
-cast-printed c = omega (arith, c .before .before .before .loop-test .taken, c .before .before .before .before .before .before .before .before .pre .few)
+cast-printed c =
+    let s = c .before .before .before .before .before .before .before .before in
+    omega (arith, c .before .before .before .loop-test .taken, s .pre .few, low-dark (s .args .p) (s .args .contrasts .now) (c .before .before .before .before .loop .inv))
 
 mul-printed : tie.Need-mul-printed Inv-loop μ-loop
 mul-printed c =
