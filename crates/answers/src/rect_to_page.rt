@@ -27,7 +27,8 @@ pub fn rect_to_page(
     x1: u32,
     y1: u32,
 ) -> RectToPageAnswer
-    ensures { λ r. ⌜ AreaMapped (record { pw = pw; ph = ph; w = w; h = h }) (now (shear .entry)) (now («shear_x» .entry)) (record { x0 = x0; y0 = y0; x1 = x1; y1 = y1 }) r ⌝ }
+    ensures { λ r. ⌜ AreaMapped (record { pw = pw; ph = ph; w = w; h = h }) (now (shear .entry)) (now («shear_x» .entry))
+        (record { x0 = x0; y0 = y0; x1 = x1; y1 = y1 }) r ⌝ }
 {
     let sides = Sides { pw, ph, w, h };
     let r = Rect { x0, y0, x1, y1 };

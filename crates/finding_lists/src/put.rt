@@ -76,7 +76,8 @@ pub fn put_ranked(
     facts: &mut [&mut [u32]; 4],
     scores: &mut [&mut [f64]; 8],
 ) -> bool
-    requires { ⌜ (k < length (now ranks)) × Roomy (getD (now ranks) k 0 + 1) (record { rects = now rects; facts = map now (now facts); scores = map now (now scores) }) ⌝ }
+    requires { ⌜ (k < length (now ranks)) × Roomy (getD (now ranks) k 0 + 1)
+        (record { rects = now rects; facts = map now (now facts); scores = map now (now scores) }) ⌝ }
     ensures { λ r. ⌜ WroteOne f (getD (now (ranks .entry)) k 0)
         (record { rects = now (rects .entry); facts = map now (now (facts .entry)); scores = map now (now (scores .entry)) })
         (record { rects = now (rects .exit); facts = map now (now (facts .exit)); scores = map now (now (scores .exit)) }) r ⌝ }

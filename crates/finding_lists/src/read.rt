@@ -108,7 +108,12 @@ fn four_long(p: &[f64], q: &[f64], r: &[f64], s: &[f64], i: usize) -> bool
 // Evidence i of three lists.
 fn evidence_at(values: &[f64], thresholds: &[f64], llrs: &[f64], i: usize) -> Evidence
     requires { ⌜ (i < length (now values)) × (i < length (now thresholds)) × (i < length (now llrs)) ⌝ }
-    ensures { λ r. ⌜ r ≡ record { value = getD (now (values .entry)) i nan; threshold = getD (now (thresholds .entry)) i nan; llr = getD (now (llrs .entry)) i nan } ⌝ }
+    ensures { λ r. ⌜ r ≡ record {
+      value = getD (now (values .entry)) i nan;
+      threshold = getD (now (thresholds .entry)) i nan;
+      llr = getD
+          (now (llrs .entry)) i nan;
+    } ⌝ }
 {
     Evidence {
         value: values[i],
@@ -181,7 +186,8 @@ pub fn finding_at(
     count: usize,
     i: usize,
 ) -> FindingAt
-    ensures { λ r. ⌜ r ≡ findingAt (columns (now (rects .entry)) (now (kinds .entry)) (now (a .entry)) (now (b .entry)) (now (c .entry)) (now («log_odds» .entry))
+    ensures { λ r. ⌜ r ≡ findingAt (columns (now (rects .entry)) (now (kinds .entry)) (now (a .entry)) (now (b .entry)) (now (c .entry))
+        (now («log_odds» .entry))
         (now («first_values» .entry)) (now («first_thresholds» .entry)) (now («first_llrs» .entry))
         (now («second_values» .entry)) (now («second_thresholds» .entry)) (now («second_llrs» .entry)) (now (lengths .entry))) count i ⌝ }
 {

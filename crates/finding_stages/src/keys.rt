@@ -36,8 +36,10 @@ fn first_keys_of(
         × (1 ≤ p .«min_free_rules») × AllInside (sides .w) (sides .h) (take (4 * tables) (now bounds))
         × RectsGiven (sides .w) (sides .h) (take (4 * n) (now rects)) (take «free_count» (now places))
         × RectsGiven (sides .w) (sides .h) (take (4 * n) (now rects)) (take «fold_count» (now folds))
-        × (count (take (4 * tables) (now bounds)) + freeCount p (take «free_count» (now places)) + length (take «fold_count» (now folds)) ≤ length (now keys)) ⌝ }
-    ensures { λ r. ⌜ FirstKeyed sides (now (shear .entry)) (now («shear_x» .entry)) p (take (4 * tables) (now (bounds .entry))) (take (4 * n) (now (rects .entry)))
+        × (count (take (4 * tables) (now bounds)) + freeCount p (take «free_count» (now places)) + length (take «fold_count» (now folds)) ≤ length
+        (now keys)) ⌝ }
+    ensures { λ r. ⌜ FirstKeyed sides (now (shear .entry)) (now («shear_x» .entry)) p (take (4 * tables) (now (bounds .entry)))
+        (take (4 * n) (now (rects .entry)))
         (take «free_count» (now (places .entry))) (take «fold_count» (now (folds .entry))) (now (keys .entry)) (now (keys .exit)) r ⌝ }
 {
     findings::first::keys(
@@ -194,7 +196,8 @@ fn rank_of(
 )
     requires { ⌜ («first_count» ≤ length (now first)) × (grids ≤ length (now second))
         × Room (take «first_count» (now first)) (take grids (now second)) (now «first_order») (now «second_order») (now «first_ranks») (now «second_ranks») ⌝ }
-    ensures { λ _. ⌜ Ranked (take «first_count» (now (first .entry))) (take grids (now (second .entry))) (now («first_ranks» .exit)) (now («second_ranks» .exit)) ⌝ }
+    ensures { λ _. ⌜ Ranked (take «first_count» (now (first .entry))) (take grids (now (second .entry))) (now («first_ranks» .exit))
+        (now («second_ranks» .exit)) ⌝ }
 {
     ranks::rank(
         &first[..first_count],
@@ -222,7 +225,8 @@ pub fn rank_in(
         (listAt 0 (now «listed_ends»)) (listAt 1 (now order)) ⌝ }
     ensures { λ _. ⌜ Ranked (take «first_count» (listAt 0 (now (keys .entry)))) (take grids (listAt 0 (now («box_keys» .entry))))
         (listAt 0 (now («listed_ends» .exit))) (listAt 1 (now (order .exit)))
-        × Kept (now (keys .entry)) (now (keys .exit)) × Kept (now («box_keys» .entry)) (now («box_keys» .exit)) × Only 0 (now (listed .entry)) (now (listed .exit))
+        × Kept (now (keys .entry)) (now (keys .exit)) × Kept (now («box_keys» .entry)) (now («box_keys» .exit)) × Only 0 (now (listed .entry))
+        (now (listed .exit))
         × Only 1 (now (parents .entry)) (now (parents .exit)) × Only 0 (now («listed_ends» .entry)) (now («listed_ends» .exit))
         × Only 1 (now (order .entry)) (now (order .exit)) ⌝ }
 {

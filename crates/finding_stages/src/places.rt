@@ -39,8 +39,10 @@ pub fn free_places_in(
         × NumbersGiven (take «printed_count» (listAt 0 (now chosen))) (take «free_count» (listAt 0 (now rest)))
         × (length (take «free_count» (listAt 0 (now rest))) ≤ length (listAt 0 (now parents))) ⌝ }
     ensures { λ _. ⌜ (listAt 0 (now (parents .exit)) ≡ written
-        (freePlaces (take «printed_count» (listAt 0 (now (chosen .entry)))) (take «free_count» (listAt 0 (now (rest .entry))))) (listAt 0 (now (parents .entry))))
-        × Kept (now (chosen .entry)) (now (chosen .exit)) × Kept (now (rest .entry)) (now (rest .exit)) × Only 0 (now (parents .entry)) (now (parents .exit)) ⌝ }
+        (freePlaces (take «printed_count» (listAt 0 (now (chosen .entry)))) (take «free_count» (listAt 0 (now (rest .entry)))))
+        (listAt 0 (now (parents .entry))))
+        × Kept (now (chosen .entry)) (now (chosen .exit)) × Kept (now (rest .entry)) (now (rest .exit)) × Only 0 (now (parents .entry))
+        (now (parents .exit)) ⌝ }
 {
     let printed = &mut chosen[0][..];
     let free = &mut rest[0][..];

@@ -88,7 +88,8 @@ pub fn tables_written_in(
 ) -> bool
     requires { ⌜ TablesLong tables (listAt 0 (now bounds)) (listAt 0 (now rows)) (listAt 0 (now columns)) (listAt 0 (now rulings)) (listAt 1 (now values))
         × Mapping sides (now shear) (now «shear_x»)
-        × TablesGiven (sides .w) (sides .h) (take (4 * tables) (listAt 0 (now bounds))) (take tables (listAt 0 (now rows))) (take tables (listAt 0 (now columns)))
+        × TablesGiven (sides .w) (sides .h) (take (4 * tables) (listAt 0 (now bounds))) (take tables (listAt 0 (now rows)))
+        (take tables (listAt 0 (now columns)))
         (take tables (listAt 0 (now rulings))) (take tables (listAt 1 (now values)))
         × RanksGiven (listAt 0 (now «listed_ends»)) 0 (count (take (4 * tables) (listAt 0 (now bounds))))
         (record { rects = listAt 0 (now page); facts = map now (now facts); scores = map now (now scores) }) ⌝ }
@@ -383,7 +384,8 @@ fn grids_written_of(
     requires { ⌜ BoxesLong boxes grids (now rects) (now marks) (now coverages) (now numbers) × Mapping sides (now shear) (now «shear_x»)
         × GridsGiven (sides .w) (sides .h) (take (4 * boxes) (now rects)) (take boxes (now marks)) (take boxes (now coverages))
         (membersOf (now members) (now ends) «box_sets») (take grids (now numbers))
-        × RanksGiven (now ranks) 0 (length (take grids (now numbers))) (record { rects = now page; facts = map now (now facts); scores = map now (now scores) }) ⌝ }
+        × RanksGiven (now ranks) 0 (length (take grids (now numbers)))
+        (record { rects = now page; facts = map now (now facts); scores = map now (now scores) }) ⌝ }
     ensures { λ r. ⌜ Wrote (λ k. gridOf (record { sides = sides; shear = now (shear .entry); shear-x = now («shear_x» .entry); settings = p; caps = f })
         (take (4 * boxes) (now (rects .entry))) (take boxes (now (marks .entry))) (take boxes (now (coverages .entry)))
         (membersOf (now (members .entry)) (now (ends .entry)) «box_sets» (getD (take grids (now (numbers .entry))) k 0)))

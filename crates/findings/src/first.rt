@@ -26,7 +26,8 @@ pub fn keys(
     requires { ⌜ Mapping sides (now shear) (now «shear_x») × (1 ≤ p .«min_free_rules») × AllInside (sides .w) (sides .h) (now bounds)
         × RectsGiven (sides .w) (sides .h) (now rects) (now places) × RectsGiven (sides .w) (sides .h) (now rects) (now folds)
         × (count (now bounds) + freeCount p (now places) + length (now folds) ≤ length (now keys)) ⌝ }
-    ensures { λ r. ⌜ FirstKeyed sides (now (shear .entry)) (now («shear_x» .entry)) p (now (bounds .entry)) (now (rects .entry)) (now (places .entry)) (now (folds .entry)) (now (keys .entry)) (now (keys .exit)) r ⌝ }
+    ensures { λ r. ⌜ FirstKeyed sides (now (shear .entry)) (now («shear_x» .entry)) p (now (bounds .entry)) (now (rects .entry)) (now (places .entry))
+        (now (folds .entry)) (now (keys .entry)) (now (keys .exit)) r ⌝ }
 {
     let tables = bounds.len() / 4;
     table_findings::keys(sides, shear, shear_x, bounds, 0, keys);

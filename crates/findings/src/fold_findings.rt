@@ -61,8 +61,10 @@ pub fn keys(
     at: usize,
     keys: &mut [u64],
 )
-    requires { ⌜ Mapping sides (now shear) (now «shear_x») × RectsGiven (sides .w) (sides .h) (now rects) (now folds) × (at + length (now folds) ≤ length (now keys)) ⌝ }
-    ensures { λ _. ⌜ now (keys .exit) ≡ sets (now (keys .entry)) at (map (foldKey sides (now (shear .entry)) (now («shear_x» .entry)) (now (rects .entry))) (now (folds .entry))) ⌝ }
+    requires { ⌜ Mapping sides (now shear) (now «shear_x») × RectsGiven (sides .w) (sides .h) (now rects) (now folds)
+        × (at + length (now folds) ≤ length (now keys)) ⌝ }
+    ensures { λ _. ⌜ now (keys .exit) ≡ sets (now (keys .entry)) at
+        (map (foldKey sides (now (shear .entry)) (now («shear_x» .entry)) (now (rects .entry))) (now (folds .entry))) ⌝ }
 {
     let mut k = 0;
     while k < folds.len() {

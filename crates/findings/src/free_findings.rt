@@ -48,7 +48,8 @@ pub fn keys(
 ) -> usize
     requires { ⌜ Mapping sides (now shear) (now «shear_x») × (1 ≤ p .«min_free_rules») × RectsGiven (sides .w) (sides .h) (now rects) (now places)
         × (at + freeCount p (now places) ≤ length (now keys)) ⌝ }
-    ensures { λ n. ⌜ KeysStored (freeKeys sides (now (shear .entry)) (now («shear_x» .entry)) p (now (rects .entry)) (now (places .entry))) at (now (keys .entry)) (now (keys .exit)) n ⌝ }
+    ensures { λ n. ⌜ KeysStored (freeKeys sides (now (shear .entry)) (now («shear_x» .entry)) p (now (rects .entry)) (now (places .entry))) at
+        (now (keys .entry)) (now (keys .exit)) n ⌝ }
 {
     if !enough(p, places.len()) {
         return 0;
@@ -68,7 +69,8 @@ pub fn finding(
     contrasts: &[f64],
     places: &[u32],
 ) -> Finding
-    requires { ⌜ Mapping sides (now shear) (now «shear_x») × (0 < length (now places)) × AllGiven (sides .w) (sides .h) (now rects) (now directions) (now contrasts) (now places) ⌝ }
+    requires { ⌜ Mapping sides (now shear) (now «shear_x») × (0 < length (now places)) × AllGiven (sides .w) (sides .h) (now rects) (now directions)
+        (now contrasts) (now places) ⌝ }
     ensures { λ r.
         ⌜ r ≡ freeOf (record { sides = sides; shear = now (shear .entry); shear-x = now («shear_x» .entry); settings = p; caps = f })
         (record { rects = now (rects .entry); directions = now (directions .entry); contrasts = now (contrasts .entry) }) (now (places .entry)) ⌝ }
@@ -109,8 +111,10 @@ pub fn write(
     facts: &mut [&mut [u32]; 4],
     scores: &mut [&mut [f64]; 8],
 ) -> bool
-    requires { ⌜ Mapping sides (now shear) (now «shear_x») × (1 ≤ p .«min_free_rules») × AllGiven (sides .w) (sides .h) (now rects) (now directions) (now contrasts) (now places) ⌝ }
-    requires { ⌜ RanksGiven (now ranks) at (freeCount p (now places)) (record { rects = now page; facts = map now (now facts); scores = map now (now scores) }) ⌝ }
+    requires { ⌜ Mapping sides (now shear) (now «shear_x») × (1 ≤ p .«min_free_rules») × AllGiven (sides .w) (sides .h) (now rects) (now directions)
+        (now contrasts) (now places) ⌝ }
+    requires { ⌜ RanksGiven (now ranks) at (freeCount p (now places))
+        (record { rects = now page; facts = map now (now facts); scores = map now (now scores) }) ⌝ }
     ensures { λ r.
         ⌜ Wrote (λ k. freeOf (record { sides = sides; shear = now (shear .entry); shear-x = now («shear_x» .entry); settings = p; caps = f })
         (record { rects = now (rects .entry); directions = now (directions .entry); contrasts = now (contrasts .entry) }) (now (places .entry)))

@@ -29,10 +29,12 @@ pub fn keys(
     at: usize,
     keys: &mut [u64],
 )
-    requires { ⌜ Mapping sides (now shear) (now «shear_x») × GridRectsGiven (sides .w) (sides .h) (now rects) (membersOf (now members) (now ends) count) (now numbers)
+    requires { ⌜ Mapping sides (now shear) (now «shear_x») × GridRectsGiven (sides .w) (sides .h) (now rects) (membersOf (now members) (now ends) count)
+        (now numbers)
         × (at + length (now numbers) ≤ length (now keys)) ⌝ }
     ensures { λ _. ⌜ now (keys .exit) ≡ sets (now (keys .entry)) at
-        (map (λ n. gridKey sides (now (shear .entry)) (now («shear_x» .entry)) (now (rects .entry)) (membersOf (now (members .entry)) (now (ends .entry)) count n)) (now (numbers .entry))) ⌝ }
+        (map (λ n. gridKey sides (now (shear .entry)) (now («shear_x» .entry)) (now (rects .entry))
+        (membersOf (now (members .entry)) (now (ends .entry)) count n)) (now (numbers .entry))) ⌝ }
 {
     let mut k = 0;
     while k < numbers.len() {
@@ -54,7 +56,8 @@ pub fn finding(
     coverages: &[f64],
     set: &[u32],
 ) -> Finding
-    requires { ⌜ Mapping sides (now shear) (now «shear_x») × (0 < length (now set)) × AllGiven (sides .w) (sides .h) (now rects) (now marks) (now coverages) (now set) ⌝ }
+    requires { ⌜ Mapping sides (now shear) (now «shear_x») × (0 < length (now set)) × AllGiven (sides .w) (sides .h) (now rects) (now marks)
+        (now coverages) (now set) ⌝ }
     ensures { λ r.
         ⌜ r ≡ gridOf (record { sides = sides; shear = now (shear .entry); shear-x = now («shear_x» .entry); settings = p; caps = f })
         (now (rects .entry)) (now (marks .entry)) (now (coverages .entry)) (now (set .entry)) ⌝ }
@@ -85,11 +88,13 @@ pub fn write(
     facts: &mut [&mut [u32]; 4],
     scores: &mut [&mut [f64]; 8],
 ) -> bool
-    requires { ⌜ Mapping sides (now shear) (now «shear_x») × GridsGiven (sides .w) (sides .h) (now rects) (now marks) (now coverages) (membersOf (now members) (now ends) count) (now numbers) ⌝ }
+    requires { ⌜ Mapping sides (now shear) (now «shear_x») × GridsGiven (sides .w) (sides .h) (now rects) (now marks) (now coverages)
+        (membersOf (now members) (now ends) count) (now numbers) ⌝ }
     requires { ⌜ RanksGiven (now ranks) at (length (now numbers)) (record { rects = now page; facts = map now (now facts); scores = map now (now scores) }) ⌝ }
     ensures { λ r.
         ⌜ Wrote (λ k. gridOf (record { sides = sides; shear = now (shear .entry); shear-x = now («shear_x» .entry); settings = p; caps = f })
-        (now (rects .entry)) (now (marks .entry)) (now (coverages .entry)) (membersOf (now (members .entry)) (now (ends .entry)) count (getD (now (numbers .entry)) k 0)))
+        (now (rects .entry)) (now (marks .entry)) (now (coverages .entry))
+        (membersOf (now (members .entry)) (now (ends .entry)) count (getD (now (numbers .entry)) k 0)))
         (length (now (numbers .entry))) (now (ranks .entry)) at
         (record { rects = now (page .entry); facts = map now (now (facts .entry)); scores = map now (now (scores .entry)) })
         (record { rects = now (page .exit); facts = map now (now (facts .exit)); scores = map now (now (scores .exit)) }) r ⌝ }

@@ -27,7 +27,8 @@ pub fn keys(
     keys: &mut [u64],
 )
     requires { ⌜ Mapping sides (now shear) (now «shear_x») × AllInside (sides .w) (sides .h) (now bounds) × (at + count (now bounds) ≤ length (now keys)) ⌝ }
-    ensures { λ _. ⌜ now (keys .exit) ≡ sets (now (keys .entry)) at (map (tableKey sides (now (shear .entry)) (now («shear_x» .entry)) (now (bounds .entry))) (below (count (now (bounds .entry))))) ⌝ }
+    ensures { λ _. ⌜ now (keys .exit) ≡ sets (now (keys .entry)) at
+        (map (tableKey sides (now (shear .entry)) (now («shear_x» .entry)) (now (bounds .entry))) (below (count (now (bounds .entry))))) ⌝ }
 {
     let n = bounds.len() / 4;
     let mut k = 0;
@@ -51,10 +52,18 @@ pub fn finding(
     shares: &[f64],
     k: usize,
 ) -> Finding
-    requires { ⌜ Mapping sides (now shear) (now «shear_x») × TablesGiven (sides .w) (sides .h) (now bounds) (now rows) (now columns) (now rulings) (now shares) × (k < count (now bounds)) ⌝ }
+    requires { ⌜ Mapping sides (now shear) (now «shear_x») × TablesGiven (sides .w) (sides .h) (now bounds) (now rows) (now columns) (now rulings)
+        (now shares) × (k < count (now bounds)) ⌝ }
     ensures { λ r.
         ⌜ r ≡ tableAt (record { sides = sides; shear = now (shear .entry); shear-x = now («shear_x» .entry); settings = p; caps = f })
-        (record { bounds = now (bounds .entry); rows = now (rows .entry); columns = now (columns .entry); rulings = now (rulings .entry); shares = now (shares .entry) }) k ⌝ }
+        (record {
+          bounds = now (bounds .entry);
+          rows = now (rows .entry);
+          columns = now (columns .entry);
+          rulings = now (rulings .entry);
+          shares = now
+              (shares .entry);
+        }) k ⌝ }
 {
     let bbox = page::on_page(sides, shear, shear_x, rects::rect_at(bounds, k));
     evidence::kinds::table_finding(p, f, bbox, rows[k], columns[k], rulings[k], shares[k])
@@ -78,11 +87,19 @@ pub fn write(
     facts: &mut [&mut [u32]; 4],
     scores: &mut [&mut [f64]; 8],
 ) -> bool
-    requires { ⌜ Mapping sides (now shear) (now «shear_x») × TablesGiven (sides .w) (sides .h) (now bounds) (now rows) (now columns) (now rulings) (now shares) ⌝ }
+    requires { ⌜ Mapping sides (now shear) (now «shear_x») × TablesGiven (sides .w) (sides .h) (now bounds) (now rows) (now columns) (now rulings)
+        (now shares) ⌝ }
     requires { ⌜ RanksGiven (now ranks) at (count (now bounds)) (record { rects = now rects; facts = map now (now facts); scores = map now (now scores) }) ⌝ }
     ensures { λ r.
         ⌜ Wrote (tableAt (record { sides = sides; shear = now (shear .entry); shear-x = now («shear_x» .entry); settings = p; caps = f })
-        (record { bounds = now (bounds .entry); rows = now (rows .entry); columns = now (columns .entry); rulings = now (rulings .entry); shares = now (shares .entry) }))
+        (record {
+          bounds = now (bounds .entry);
+          rows = now (rows .entry);
+          columns = now (columns .entry);
+          rulings = now (rulings .entry);
+          shares = now
+              (shares .entry);
+        }))
         (count (now (bounds .entry))) (now (ranks .entry)) at
         (record { rects = now (rects .entry); facts = map now (now (facts .entry)); scores = map now (now (scores .entry)) })
         (record { rects = now (rects .exit); facts = map now (now (facts .exit)); scores = map now (now (scores .exit)) }) r ⌝ }

@@ -7,7 +7,7 @@ use lib.Dec.{leb}
 use lib.ListN.{length, getD}
 use Rattle.sets.specs.Closed.{Below, Listed}
 use Rattle.sets.specs.Listing.{closedSets}
-use Rattle.sets.specs.Steps.{Answered}
+use Rattle.gaps.specs.Answers.{Answered}
 
 -- Two numbers differ by at most the gap.
 abbrev pub near : ℕ → ℕ → ℕ → Bool

@@ -1,2 +1,3 @@
--- Numbers within a gap of each other, in closed sets.
+-- Numbers within a gap of each other, in closed sets, and what a call that lists sets answers.
+pub mod Answers
 pub mod Gaps

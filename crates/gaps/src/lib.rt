@@ -5,7 +5,7 @@ ghost use lib.ListN.{length};
 ghost use Rattle.sets.specs.Closed.{Below};
 ghost use Rattle.sets.specs.Steps.{Joins, Seen, Room};
 ghost use Rattle.gaps.specs.Gaps.{near, Touch, GapSets};
-ghost use Rattle.lists.specs.Lists.{roomFor};
+ghost use Rattle.gaps.specs.Answers.{roomFor};
 
 // Do two numbers differ by at most the gap?
 fn near(a: u32, b: u32, gap: u32) -> bool
@@ -19,9 +19,11 @@ fn near(a: u32, b: u32, gap: u32) -> bool
 
 // Joins place i with every later place that it touches.
 fn join_row(values: &[u32], gap: u32, parents: &mut [u32], i: usize)
-    requires { ⌜ (i < length (now values)) × Joins (length (now values)) (Below (length (now values))) (Seen (Touch (now values) gap) i (i + 1)) (now parents) ⌝ }
+    requires { ⌜ (i < length (now values)) × Joins (length (now values)) (Below (length (now values))) (Seen (Touch (now values) gap) i (i + 1))
+        (now parents) ⌝ }
     ensures { λ _.
-        ⌜ Joins (length (now (values .entry))) (Below (length (now (values .entry)))) (Seen (Touch (now (values .entry)) gap) i (length (now (values .entry)))) (now (parents .exit)) ⌝ }
+        ⌜ Joins (length (now (values .entry))) (Below (length (now (values .entry))))
+        (Seen (Touch (now (values .entry)) gap) i (length (now (values .entry)))) (now (parents .exit)) ⌝ }
 {
     let n = values.len();
     let value = values[i];
@@ -48,7 +50,14 @@ fn join_all(values: &[u32], gap: u32, parents: &mut [u32])
     }
 }
 
-// 0 where the lists have room and 1 where they have not, and the number of sets.
+// Is there room for n entries in lists of these lengths?
+pub fn room(n: usize, a: usize, b: usize, c: usize, d: usize) -> bool
+    ensures { λ r. ⌜ r ≡ roomFor n a b c d ⌝ }
+{
+    (n < 4294967296) & (n <= a) & (n <= b) & (n <= c) & (n <= d)
+}
+
+// 0 where a call is accepted and 1 where it is refused, and the number of sets.
 #[repr(C)]
 pub struct Answer {
     pub number: u32,
@@ -66,12 +75,13 @@ pub fn gap_sets(
 ) -> Answer
     ensures { λ r.
         ⌜ GapSets (now (values .entry)) gap
-        (roomFor (length (now (values .entry))) (length (now (parents .entry))) (length (now (members .entry))) (length (now (ends .entry))) (length (now (work .entry))))
+        (roomFor (length (now (values .entry))) (length (now (parents .entry))) (length (now (members .entry))) (length (now (ends .entry)))
+        (length (now (work .entry))))
         (now (parents .entry)) (now (members .entry)) (now (ends .entry)) (now (work .entry))
         (now (parents .exit)) (now (members .exit)) (now (ends .exit)) (now (work .exit)) (r .number) (r .count) ⌝ }
 {
     let n = values.len();
-    let fits = lists::room(n, parents.len(), members.len(), ends.len(), work.len());
+    let fits = room(n, parents.len(), members.len(), ends.len(), work.len());
     if fits {
         join_all(values, gap, parents);
         let count = sets::list(parents, n, members, ends, work);

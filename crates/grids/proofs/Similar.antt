@@ -19,7 +19,8 @@ use Rattle.math.proofs.Value.{sub-value}
 use Rattle.rects.specs.declared.Rect.{Rect}
 use Rattle.rects.specs.Rects.{widthOf}
 use Rattle.rects.specs.Steps.{Inside}
-use Rattle.grids.specs.Boxes.{similar, distance, centreX, centreY, aligned, touching}
+use Rattle.grids.specs.Boxes.{similar, centreX, centreY, aligned, touching}
+use Rattle.rects.specs.Rects.{distance}
 
 -- ---- the difference
 

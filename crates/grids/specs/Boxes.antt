@@ -2,14 +2,14 @@
 use mathlib.Core.Path.{_≡_}
 use mathlib.Core.Bool.{Bool, true, _&&_, _||_}
 use mathlib.Core.List.{List}
-use Prim.Native.Nat.{ℕ, _+_, _-_, min, max}
+use Prim.Native.Nat.{ℕ, _+_, _-_}
 use lib.Dec.{leb}
 use lib.Ieee.{binary64, mul, sub, le}
 use Rattle.math.specs.Constants.{threeTenths}
 use Rattle.math.specs.Select.{absolute, maximumNumber}
 use Rattle.math.specs.Sum.{whole}
 use Rattle.rects.specs.declared.Rect.{Rect}
-use Rattle.rects.specs.Rects.{widthOf, rectAt}
+use Rattle.rects.specs.Rects.{widthOf, rectAt, distance}
 
 -- Two widths are similar: they differ by at most 0.3 × the larger, in f64.
 unfoldable pub similar : ℕ → ℕ → Bool
@@ -22,10 +22,6 @@ centreX r = r .x0 + r .x1
 
 abbrev pub centreY : Rect → ℕ
 centreY r = r .y0 + r .y1
-
--- How far two numbers are apart.
-abbrev pub distance : ℕ → ℕ → ℕ
-distance a b = max a b - min a b
 
 -- Either doubled centre differs by at most the limit: the boxes stand in one column or in one row.
 abbrev pub aligned : ℕ → Rect → Rect → Bool

@@ -40,13 +40,8 @@ pub record Lent : Type 0 where
 abbrev pub hasRoom : Given → Lent → Bool
 hasRoom g l =
     let n = count (g .rects) in
-    leb n (length (l .members))
-    && leb n (length (l .ends))
-    && leb n (length (l .reading))
-    && leb n (length (l .numbers))
-    && leb n (length (l .parents))
-    && leb n (length (l .work))
-    && leb n (length (l .keys))
+    leb n (length (l .members)) && leb n (length (l .ends)) && leb n (length (l .reading)) && leb n (length (l .numbers))
+    && leb n (length (l .parents)) && leb n (length (l .work)) && leb n (length (l .keys))
 
 -- The questions about what is given, in document 01's order: 2 (x-height), 5, 6, 7 to 11, 13.
 abbrev pub givenQuestions : Given → List Question

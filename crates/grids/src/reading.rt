@@ -80,7 +80,8 @@ pub fn read_sets(
         × WorkRoom (Rattle.rects.specs.Rects.count (now rects)) (length (now order)) (length (now work)) (length (now keys))
         × (Rattle.rects.specs.Rects.count (now rects) ≤ length (now reading)) ⌝ }
     ensures { λ _. ⌜ now (reading .exit) ≡ written
-        (concat (map (λ k. readingOrder (now (rects .entry)) (membersOf (now (members .entry)) (now (ends .entry)) count k)) (below count))) (now (reading .entry)) ⌝ }
+        (concat (map (λ k. readingOrder (now (rects .entry)) (membersOf (now (members .entry)) (now (ends .entry)) count k)) (below count)))
+        (now (reading .entry)) ⌝ }
 {
     let mut at = 0;
     let mut k = 0;

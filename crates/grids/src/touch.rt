@@ -8,7 +8,8 @@ ghost use Rattle.rects.specs.Rects.{widthOf, count};
 ghost use Rattle.rects.specs.Steps.{Inside};
 ghost use Rattle.sets.specs.Closed.{Below};
 ghost use Rattle.sets.specs.Steps.{Joins, Seen, Room};
-ghost use Rattle.grids.specs.Boxes.{similar, distance, aligned, touching, touch, Touch};
+ghost use Rattle.grids.specs.Boxes.{similar, aligned, touching, touch, Touch};
+ghost use Rattle.rects.specs.Rects.{distance};
 ghost use Rattle.grids.specs.Steps.{PassedBoxes, Next, Connected};
 use rects::Rect;
 

@@ -16,7 +16,8 @@ pub extern "C" fn lanegravel_rect_to_page(
     x1: u32,
     y1: u32,
 ) -> RectToPageAnswer
-    ensures { λ r. ⌜ AreaMapped (record { pw = pw; ph = ph; w = w; h = h }) (now (shear .entry)) (now («shear_x» .entry)) (record { x0 = x0; y0 = y0; x1 = x1; y1 = y1 }) r ⌝ }
+    ensures { λ r. ⌜ AreaMapped (record { pw = pw; ph = ph; w = w; h = h }) (now (shear .entry)) (now («shear_x» .entry))
+        (record { x0 = x0; y0 = y0; x1 = x1; y1 = y1 }) r ⌝ }
 {
     answers::rect_to_page::rect_to_page(pw, ph, w, h, shear, shear_x, x0, y0, x1, y1)
 }

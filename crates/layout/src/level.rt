@@ -38,7 +38,8 @@ fn level_part(
     y: usize,
 )
     requires { ⌜ Ready sides (now gray) (now shear) (now «shear_x») (now out) × (Run (now shear) from to × (y < sides .h)) ⌝ }
-    ensures { λ _. ⌜ LevelledArea sides (now (gray .entry)) (now (shear .entry)) (now («shear_x» .entry)) (Columns (now («shear_x» .entry)) from to) y (y + 1) (now (out .entry)) (now (out .exit)) ⌝ }
+    ensures { λ _. ⌜ LevelledArea sides (now (gray .entry)) (now (shear .entry)) (now («shear_x» .entry)) (Columns (now («shear_x» .entry)) from to) y
+        (y + 1) (now (out .entry)) (now (out .exit)) ⌝ }
 {
     let down = tables::entry_at(shear, from);
     let page = y * sides.w + tables::entry_at(shear_x, y);
@@ -58,7 +59,8 @@ fn level_columns(
     y1: usize,
 )
     requires { ⌜ Ready sides (now gray) (now shear) (now «shear_x») (now out) × (Run (now shear) from to × (y1 ≤ sides .h)) ⌝ }
-    ensures { λ _. ⌜ LevelledArea sides (now (gray .entry)) (now (shear .entry)) (now («shear_x» .entry)) (Columns (now («shear_x» .entry)) from to) y0 y1 (now (out .entry)) (now (out .exit)) ⌝ }
+    ensures { λ _. ⌜ LevelledArea sides (now (gray .entry)) (now (shear .entry)) (now («shear_x» .entry)) (Columns (now («shear_x» .entry)) from to) y0 y1
+        (now (out .entry)) (now (out .exit)) ⌝ }
 {
     let mut y = y0;
     while y < y1 {

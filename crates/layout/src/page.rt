@@ -84,7 +84,8 @@ pub fn to_page(sides: Sides, shear: &[i32], shear_x: &[i32], p: Levelled) -> Pag
 
 // `rect_to_page`, likewise, for a rectangle with its corners inside the picture.
 pub fn rect_to_page(sides: Sides, shear: &[i32], shear_x: &[i32], r: Rect) -> PageRect
-    requires { ⌜ Sheared sides (now shear) (now «shear_x») × (((1 ≤ sides .pw) × (1 ≤ sides .ph)) × (((r .x0 < sides .w) × (r .y0 < sides .h)) × ((r .x1 < sides .w) × (r .y1 < sides .h)))) ⌝ }
+    requires { ⌜ Sheared sides (now shear) (now «shear_x») × (((1 ≤ sides .pw) × (1 ≤ sides .ph))
+        × (((r .x0 < sides .w) × (r .y0 < sides .h)) × ((r .x1 < sides .w) × (r .y1 < sides .h)))) ⌝ }
     ensures { λ q. ⌜ q ≡ rectToPage sides (now (shear .entry)) (now («shear_x» .entry)) r ⌝ }
 {
     let a = to_page(sides, shear, shear_x, Levelled(r.x0, r.y0));

@@ -2,6 +2,6 @@
 pub mod Written
 pub mod Keep
 pub mod Every
-pub mod Rooms
 pub mod Sizes
 pub mod Gathered
+pub mod Stores

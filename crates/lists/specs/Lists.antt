@@ -24,10 +24,6 @@ abbrev pub one : Bool → ℕ
 one true = 1
 one false = 0
 
--- Each of four lists has room for n entries, and n fits 32 bits.
-abbrev pub roomFor : ℕ → ℕ → ℕ → ℕ → ℕ → Bool
-roomFor n a b c d = ltb n (2 ^ 32) && leb n a && leb n b && leb n c && leb n d
-
 module _ {A : Type 0} where
   -- The entries of a list that pass a test, in their order.
   abbrev pub keep : (A → Bool) → List A → List A

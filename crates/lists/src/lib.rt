@@ -1,8 +1,9 @@
 // What several crates do with lent lists.
 ghost use mathlib.Core.Path.{_≡_};
-ghost use Prim.Native.Nat.{_≤_, _<_, _^_};
+ghost use Prim.Native.Nat.{_+_, _≤_, _<_, _^_};
 ghost use lib.ListN.{length, replicate};
-ghost use Rattle.lists.specs.Lists.{below, written, roomFor};
+ghost use lib.Seq.{sets};
+ghost use Rattle.lists.specs.Lists.{below, written};
 
 // The first n places hold the value; the places past them keep their content.
 pub fn fill(list: &mut [u32], n: usize, value: u32)
@@ -28,9 +29,15 @@ pub fn numbers(list: &mut [u32], n: usize)
     }
 }
 
-// Is there room for n entries in lists of these lengths?
-pub fn room(n: usize, a: usize, b: usize, c: usize, d: usize) -> bool
-    ensures { λ r. ⌜ r ≡ roomFor n a b c d ⌝ }
+// Writes xs from place `at` on, and returns its end.
+pub fn append(xs: &[u32], list: &mut [u32], at: usize) -> usize
+    requires { ⌜ at + length (now xs) ≤ length (now list) ⌝ }
+    ensures { λ r. ⌜ (now (list .exit) ≡ sets (now (list .entry)) at (now (xs .entry))) × (r ≡ at + length (now (xs .entry))) ⌝ }
 {
-    (n < 4294967296) & (n <= a) & (n <= b) & (n <= c) & (n <= d)
+    let mut k = 0;
+    while k < xs.len() {
+        list[at + k] = xs[k];
+        k += 1;
+    }
+    at + xs.len()
 }

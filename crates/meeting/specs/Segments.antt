@@ -1,11 +1,11 @@
 -- Rulings as `tables` sees them: when two touch, and when an end is joined.
 use mathlib.Core.Bool.{Bool, true, false, cond, not, _&&_}
 use mathlib.Core.List.{List}
-use Prim.Native.Nat.{ℕ, _+_, _-_, _*_, min, max}
+use Prim.Native.Nat.{ℕ, _+_, _-_, _*_}
 use lib.Dec.{leb, eqb}
 use lib.ListN.{getD}
 use Rattle.rects.specs.declared.Rect.{Rect}
-use Rattle.rects.specs.Rects.{rectAt}
+use Rattle.rects.specs.Rects.{rectAt, distance}
 use Rattle.meeting.specs.declared.segment.Segment.{Segment}
 
 -- A ruling by its rectangle and its direction, 0 for horizontal: its span along it, and its doubled centre, the sum of its two cross coordinates.
@@ -29,10 +29,6 @@ spanHolds join a c = leb (2 * a .start) (c + 2 * join) && leb c (2 * (a .end + j
 -- Document 01's touching: a horizontal and a vertical, each one's doubled centre within twice the other's widened span. The Rust's `meet`.
 unfoldable pub touches : ℕ → Segment → Segment → Bool
 touches join a b = opposite a b && spanHolds join a (b .centre2) && spanHolds join b (a .centre2)
-
--- How far two numbers are apart.
-abbrev pub distance : ℕ → ℕ → ℕ
-distance a b = max a b - min a b
 
 -- The end e of ruling a is joined by ruling b: an opposite one whose doubled centre is at most 2J + 2 from 2e, and whose span, widened by J and
 -- doubled, holds the doubled centre of a.

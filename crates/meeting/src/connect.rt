@@ -20,10 +20,12 @@ fn join_row(
     parents: &mut [u32],
     i: usize,
 )
-    requires { ⌜ (join < 2 ^ 32) × Given (now rects) (now directions) (now chosen) × (now verticals ≡ verticalsOf (rulingAt (now rects) (now directions) (now chosen)) (length (now chosen))) × (i < length (now chosen)) ⌝ }
+    requires { ⌜ (join < 2 ^ 32) × Given (now rects) (now directions) (now chosen)
+        × (now verticals ≡ verticalsOf (rulingAt (now rects) (now directions) (now chosen)) (length (now chosen))) × (i < length (now chosen)) ⌝ }
     requires { ⌜ Joins (length (now chosen)) (Below (length (now chosen))) (Tried join (rulingAt (now rects) (now directions) (now chosen)) i) (now parents) ⌝ }
     ensures { λ _.
-        ⌜ Joins (length (now (chosen .entry))) (Below (length (now (chosen .entry)))) (Tried join (rulingAt (now (rects .entry)) (now (directions .entry)) (now (chosen .entry))) (i + 1)) (now (parents .exit)) ⌝ }
+        ⌜ Joins (length (now (chosen .entry))) (Below (length (now (chosen .entry))))
+        (Tried join (rulingAt (now (rects .entry)) (now (directions .entry)) (now (chosen .entry))) (i + 1)) (now (parents .exit)) ⌝ }
 {
     let n = chosen.len();
     let a = segment::ruling_at(rects, directions, chosen, i);
@@ -50,9 +52,11 @@ fn join_all(
     join: u64,
     parents: &mut [u32],
 )
-    requires { ⌜ (join < 2 ^ 32) × Given (now rects) (now directions) (now chosen) × (now verticals ≡ verticalsOf (rulingAt (now rects) (now directions) (now chosen)) (length (now chosen))) × Room (length (now chosen)) (now parents) ⌝ }
+    requires { ⌜ (join < 2 ^ 32) × Given (now rects) (now directions) (now chosen)
+        × (now verticals ≡ verticalsOf (rulingAt (now rects) (now directions) (now chosen)) (length (now chosen))) × Room (length (now chosen)) (now parents) ⌝ }
     ensures { λ _.
-        ⌜ Joins (length (now (chosen .entry))) (Below (length (now (chosen .entry)))) (Touch join (rulingAt (now (rects .entry)) (now (directions .entry)) (now (chosen .entry)))) (now (parents .exit)) ⌝ }
+        ⌜ Joins (length (now (chosen .entry))) (Below (length (now (chosen .entry))))
+        (Touch join (rulingAt (now (rects .entry)) (now (directions .entry)) (now (chosen .entry)))) (now (parents .exit)) ⌝ }
 {
     let n = chosen.len();
     sets::begin(parents, n);
@@ -74,7 +78,8 @@ pub fn connect(
     members: &mut [u32],
     ends: &mut [u32],
 ) -> usize
-    requires { ⌜ (join < 2 ^ 32) × Given (now rects) (now directions) (now chosen) × (length (now chosen) ≤ length (now parents)) × (length (now chosen) ≤ length (now work)) ⌝ }
+    requires { ⌜ (join < 2 ^ 32) × Given (now rects) (now directions) (now chosen) × (length (now chosen) ≤ length (now parents))
+        × (length (now chosen) ≤ length (now work)) ⌝ }
     requires { ⌜ (length (now chosen) ≤ length (now members)) × (length (now chosen) ≤ length (now ends)) ⌝ }
     ensures { λ r. ⌜ Connected join (rulingAt (now (rects .entry)) (now (directions .entry)) (now (chosen .entry))) (length (now (chosen .entry)))
         (now (members .entry)) (now (ends .entry)) (now (members .exit)) (now (ends .exit)) r ⌝ }

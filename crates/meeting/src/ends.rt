@@ -80,9 +80,12 @@ fn joined_of(
     join: u64,
     i: usize,
 ) -> usize
-    requires { ⌜ (join < 2 ^ 32) × Given (now rects) (now directions) (now chosen) × IndexesBelow (length (now chosen)) (now set) × (i < length (now chosen)) ⌝ }
-    ensures { λ r. ⌜ r ≡ one (endJoined join (rulingAt (now (rects .entry)) (now (directions .entry)) (now (chosen .entry))) (now (set .entry)) (rulingAt (now (rects .entry)) (now (directions .entry)) (now (chosen .entry)) i .start) i)
-        + one (endJoined join (rulingAt (now (rects .entry)) (now (directions .entry)) (now (chosen .entry))) (now (set .entry)) (rulingAt (now (rects .entry)) (now (directions .entry)) (now (chosen .entry)) i .end) i) ⌝ }
+    requires { ⌜ (join < 2 ^ 32) × Given (now rects) (now directions) (now chosen) × IndexesBelow (length (now chosen)) (now set)
+        × (i < length (now chosen)) ⌝ }
+    ensures { λ r. ⌜ r ≡ one (endJoined join (rulingAt (now (rects .entry)) (now (directions .entry)) (now (chosen .entry))) (now (set .entry))
+        (rulingAt (now (rects .entry)) (now (directions .entry)) (now (chosen .entry)) i .start) i)
+        + one (endJoined join (rulingAt (now (rects .entry)) (now (directions .entry)) (now (chosen .entry))) (now (set .entry))
+        (rulingAt (now (rects .entry)) (now (directions .entry)) (now (chosen .entry)) i .end) i) ⌝ }
 {
     let a = segment::ruling_at(rects, directions, chosen, i);
     let start = joined_from_front(rects, directions, chosen, set, join, a, a.start);

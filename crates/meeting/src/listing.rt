@@ -20,7 +20,8 @@ pub fn next(n: usize, more: bool) -> usize
 // Lists the vertical rulings, ascending, and returns how many there are.
 pub fn verticals(rects: &[u32], directions: &[u32], chosen: &[u32], list: &mut [u32]) -> usize
     requires { ⌜ Given (now rects) (now directions) (now chosen) × (length (now chosen) ≤ length (now list)) ⌝ }
-    ensures { λ r. ⌜ VerticalsListed (rulingAt (now (rects .entry)) (now (directions .entry)) (now (chosen .entry))) (length (now (chosen .entry))) (now (list .exit)) r ⌝ }
+    ensures { λ r. ⌜ VerticalsListed (rulingAt (now (rects .entry)) (now (directions .entry)) (now (chosen .entry))) (length (now (chosen .entry)))
+        (now (list .exit)) r ⌝ }
 {
     let n = chosen.len();
     let mut count = 0;

@@ -3,7 +3,8 @@ ghost use mathlib.Core.Path.{_≡_};
 ghost use mathlib.Core.Bool.{true, false};
 ghost use Prim.Native.Nat.{_+_, _<_, _^_};
 ghost use lib.ListN.{length};
-ghost use Rattle.meeting.specs.Segments.{segmentOf, rulingAt, opposite, spanHolds, touches, distance, joinsEnd};
+ghost use Rattle.meeting.specs.Segments.{segmentOf, rulingAt, opposite, spanHolds, touches, joinsEnd};
+ghost use Rattle.rects.specs.Rects.{distance};
 ghost use Rattle.meeting.specs.Steps.{Given};
 
 // The span along the ruling, and twice its centre across, so that it stays whole.
@@ -45,7 +46,8 @@ pub fn ruling_at(rects: &[u32], directions: &[u32], chosen: &[u32], i: usize) ->
 
 // The same for a vertical ruling, whose direction need not be read.
 pub fn vertical_at(rects: &[u32], directions: &[u32], chosen: &[u32], i: usize) -> Segment
-    requires { ⌜ Given (now rects) (now directions) (now chosen) × (i < length (now chosen)) × (rulingAt (now rects) (now directions) (now chosen) i .horizontal ≡ false) ⌝ }
+    requires { ⌜ Given (now rects) (now directions) (now chosen) × (i < length (now chosen))
+        × (rulingAt (now rects) (now directions) (now chosen) i .horizontal ≡ false) ⌝ }
     ensures { λ a. ⌜ a ≡ rulingAt (now (rects .entry)) (now (directions .entry)) (now (chosen .entry)) i ⌝ }
 {
     let place = chosen[i] as usize;

@@ -21,18 +21,7 @@ answerOf number n findings =
 
 -- No count at all.
 abbrev pub noCounts : Counts
-noCounts =
-    record {
-      rulings = 0;
-      printed = 0;
-      faint = 0;
-      tables = 0;
-      boxes = 0;
-      grids = 0;
-      «printed_sets» = 0;
-      free = 0;
-      «box_sets» = 0;
-    }
+noCounts = record { rulings = 0; printed = 0; faint = 0; tables = 0; boxes = 0; grids = 0; «printed_sets» = 0; free = 0; «box_sets» = 0 }
 
 -- An accepted page: the number 0, and how much was found.
 abbrev pub accepted : Counts → ℕ → Answer

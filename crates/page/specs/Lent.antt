@@ -62,35 +62,19 @@ pub record Lent : Type 0 where
 -- as many findings as both together; each index, member or work list has one entry a piece, or a glyph box.
 abbrev pub rulingsFit : ℕ → RuleLists → Bool
 rulingsFit n l =
-    leb (4 * n) (length (l .rects))
-    && leb n (length (l .directions))
-    && leb n (length (l .contrasts))
-    && leb n (length (l .printed))
-    && leb n (length (l .faint))
-    && leb n (length (l .piece-members))
-    && leb n (length (l .piece-ends))
+    leb (4 * n) (length (l .rects)) && leb n (length (l .directions)) && leb n (length (l .contrasts)) && leb n (length (l .printed))
+    && leb n (length (l .faint)) && leb n (length (l .piece-members)) && leb n (length (l .piece-ends))
 
 abbrev pub tablesFit : ℕ → RuleLists → Bool
 tablesFit n l =
-    leb (4 * n) (length (l .bounds))
-    && leb n (length (l .rows))
-    && leb n (length (l .columns))
-    && leb n (length (l .rulings))
-    && leb n (length (l .shares))
-    && leb n (length (l .free))
-    && leb n (length (l .printed-members))
-    && leb n (length (l .printed-ends))
+    leb (4 * n) (length (l .bounds)) && leb n (length (l .rows)) && leb n (length (l .columns)) && leb n (length (l .rulings))
+    && leb n (length (l .shares)) && leb n (length (l .free)) && leb n (length (l .printed-members)) && leb n (length (l .printed-ends))
     && leb n (length (l .numbers))
 
 abbrev pub boxesFit : ℕ → MarkLists → Bool
 boxesFit m l =
-    leb (4 * m) (length (l .boxes))
-    && leb m (length (l .marks))
-    && leb m (length (l .coverages))
-    && leb m (length (l .reading))
-    && leb m (length (l .members))
-    && leb m (length (l .ends))
-    && leb m (length (l .numbers))
+    leb (4 * m) (length (l .boxes)) && leb m (length (l .marks)) && leb m (length (l .coverages)) && leb m (length (l .reading))
+    && leb m (length (l .members)) && leb m (length (l .ends)) && leb m (length (l .numbers))
 
 abbrev pub findingsFit : ℕ → Columns → Bool
 findingsFit n l =
@@ -100,14 +84,8 @@ findingsFit n l =
 
 abbrev pub workFits : ℕ → ℕ → RuleLists → MarkLists → Bool
 workFits n m l k =
-    leb n (length (l .parents))
-    && leb n (length (l .listed))
-    && leb n (length (l .listed-ends))
-    && leb n (length (l .order))
-    && leb n (length (l .keys))
-    && leb m (length (k .parents))
-    && leb m (length (k .order))
-    && leb m (length (k .keys))
+    leb n (length (l .parents)) && leb n (length (l .listed)) && leb n (length (l .listed-ends)) && leb n (length (l .order))
+    && leb n (length (l .keys)) && leb m (length (k .parents)) && leb m (length (k .order)) && leb m (length (k .keys))
 
 abbrev pub hasRoom : ℕ → ℕ → ℕ → ℕ → Lent → Bool
 hasRoom w h n m l =

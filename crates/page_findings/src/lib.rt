@@ -103,7 +103,8 @@ pub fn find(
         × Kept (now (rects .entry)) (now (rects .exit)) × Kept (now (tags .entry)) (now (tags .exit)) × Kept (now (values .entry)) (now (values .exit))
         × Kept (now (chosen .entry)) (now (chosen .exit)) × Kept (now (rest .entry)) (now (rest .exit)) × Kept (now (members .entry)) (now (members .exit))
         × Kept (now (ends .entry)) (now (ends .exit)) × Kept (now (numbers .entry)) (now (numbers .exit)) × Kept (now (bounds .entry)) (now (bounds .exit))
-        × Kept (now (rows .entry)) (now (rows .exit)) × Kept (now (columns .entry)) (now (columns .exit)) × Kept (now (rulings .entry)) (now (rulings .exit)) ⌝ }
+        × Kept (now (rows .entry)) (now (rows .exit)) × Kept (now (columns .entry)) (now (columns .exit)) × Kept (now (rulings .entry))
+        (now (rulings .exit)) ⌝ }
 {
     let t = n.tables;
     let r = n.rulings;

@@ -5,10 +5,11 @@ use mathlib.Core.List.{List}
 use Prim.Native.Nat.{ℕ, _+_, _*_, _/_, _<_}
 use lib.Dec.{ltb, eqb}
 use lib.ListN.{length, getD}
-use Rattle.lists.specs.Lists.{below, any, everyBelow, roomFor}
+use Rattle.lists.specs.Lists.{below, any, everyBelow}
+use Rattle.gaps.specs.Answers.{roomFor}
 use Rattle.sets.specs.Closed.{Below, Listed}
 use Rattle.sets.specs.Listing.{closedSets}
-use Rattle.sets.specs.Steps.{Answered}
+use Rattle.gaps.specs.Answers.{Answered}
 
 -- i and j are one of the first m pairs.
 abbrev pub paired : List ℕ → ℕ → ℕ → ℕ → Bool

@@ -6,6 +6,7 @@ ghost use lib.ListN.{length};
 ghost use Rattle.sets.specs.Closed.{Below};
 ghost use Rattle.sets.specs.Steps.{Joins, Room};
 ghost use Rattle.pairs.specs.Pairs.{indexesBelow, IndexesBelow, Paired, PairSets};
+use gaps::Answer;
 
 // Is every number of the list an index below n?
 fn indexes_below(pairs: &[u32], n: usize) -> bool
@@ -38,13 +39,6 @@ fn join_pairs(pairs: &[u32], n: usize, parents: &mut [u32])
     }
 }
 
-// 0 where the lists have room and every index is below n, else 1; and the number of sets.
-#[repr(C)]
-pub struct Answer {
-    pub number: u32,
-    pub count: usize,
-}
-
 // The closed sets of the indexes below n, two of which touch when they stand as a pair of the list. Refused lists are left as
 // they were.
 pub fn pair_sets(
@@ -60,7 +54,7 @@ pub fn pair_sets(
         (now (parents .entry)) (now (members .entry)) (now (ends .entry)) (now (work .entry))
         (now (parents .exit)) (now (members .exit)) (now (ends .exit)) (now (work .exit)) (r .number) (r .count) ⌝ }
 {
-    let fits = lists::room(n, parents.len(), members.len(), ends.len(), work.len())
+    let fits = gaps::room(n, parents.len(), members.len(), ends.len(), work.len())
         & indexes_below(pairs, n);
     if fits {
         join_pairs(pairs, n, parents);

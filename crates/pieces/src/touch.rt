@@ -112,9 +112,11 @@ fn touches(pieces: &[u32], j: usize, a: Rect, direction: bool, across: u32, gap:
 
 // Joins piece i with every later piece that it touches.
 fn join_row(pieces: &[u32], across: u32, gap: u32, parents: &mut [u32], i: usize)
-    requires { ⌜ (i < count (now pieces)) × AllOrdered (now pieces) × Joins (count (now pieces)) (Below (count (now pieces))) (Seen (Touch (now pieces) across gap) i (i + 1)) (now parents) ⌝ }
+    requires { ⌜ (i < count (now pieces)) × AllOrdered (now pieces) × Joins (count (now pieces)) (Below (count (now pieces)))
+        (Seen (Touch (now pieces) across gap) i (i + 1)) (now parents) ⌝ }
     ensures { λ _.
-        ⌜ Joins (count (now (pieces .entry))) (Below (count (now (pieces .entry)))) (Seen (Touch (now (pieces .entry)) across gap) i (count (now (pieces .entry)))) (now (parents .exit)) ⌝ }
+        ⌜ Joins (count (now (pieces .entry))) (Below (count (now (pieces .entry))))
+        (Seen (Touch (now (pieces .entry)) across gap) i (count (now (pieces .entry)))) (now (parents .exit)) ⌝ }
 {
     let n = pieces.len() / 4;
     let a = rects::rect_at(pieces, i);

@@ -1,5 +1,5 @@
 -- Rectangles, x0, y0, x1, y1, both ends inside, and lists of them: four numbers each.
-use Prim.Native.Nat.{ℕ, _+_, _-_, _*_, _/_, _%_}
+use Prim.Native.Nat.{ℕ, _+_, _-_, _*_, _/_, _%_, min, max}
 use mathlib.Core.Bool.{Bool, _&&_}
 use mathlib.Core.List.{List, [], _∷_}
 use lib.Dec.{leb, ltb, eqb}
@@ -12,6 +12,10 @@ widthOf r = r .x1 - r .x0 + 1
 
 abbrev pub heightOf : Rect → ℕ
 heightOf r = r .y1 - r .y0 + 1
+
+-- How far two numbers are apart.
+abbrev pub distance : ℕ → ℕ → ℕ
+distance a b = max a b - min a b
 
 -- How many rectangles a number list has.
 abbrev pub count : List ℕ → ℕ

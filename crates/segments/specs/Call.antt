@@ -48,17 +48,9 @@ pub record Lent : Type 0 where
 abbrev pub hasRoom : Given → Lent → Bool
 hasRoom g l =
     let n = count (g .pieces) in
-    eqb (length (g .raster)) (g .w * g .h)
-    && leb (4 * n) (length (l .rects))
-    && leb n (length (l .directions))
-    && leb n (length (l .contrasts))
-    && leb n (length (l .piece-members))
-    && leb n (length (l .piece-ends))
-    && leb n (length (l .parents))
-    && leb n (length (l .listed))
-    && leb n (length (l .listed-ends))
-    && leb n (length (l .work))
-    && leb n (length (l .keys))
+    eqb (length (g .raster)) (g .w * g .h) && leb (4 * n) (length (l .rects)) && leb n (length (l .directions)) && leb n (length (l .contrasts))
+    && leb n (length (l .piece-members)) && leb n (length (l .piece-ends)) && leb n (length (l .parents)) && leb n (length (l .listed))
+    && leb n (length (l .listed-ends)) && leb n (length (l .work)) && leb n (length (l .keys))
 
 -- The questions that it puts, in document 01's order.
 abbrev pub questions : Given → Lent → List Question

@@ -2,7 +2,7 @@
 use mathlib.Core.Path.{_≡_}
 use mathlib.Core.Bool.{Bool, _&&_}
 use mathlib.Core.List.{List, [], _∷_, map}
-use Prim.Native.Nat.{ℕ, _+_, _*_, _^_, _≤_, _<_}
+use Prim.Native.Nat.{ℕ, _*_, _^_, _≤_, _<_}
 use lib.Ieee.{Float, le}
 use lib.ListN.{length, getD}
 use Rattle.lists.specs.Lists.{below, written, In, concat}
@@ -57,11 +57,6 @@ partsOf members ends n = map (membersOf members ends n) (below n)
 -- The parts of a listing in another order.
 abbrev pub inOrder : List ℕ → List ℕ → ℕ → List ℕ → List (List ℕ)
 inOrder members ends n order = map (λ k. membersOf members ends n (getD order k 0)) (below n)
-
--- What copying a list to a place of another leaves, and where it ends.
-pub record Copied (from to : List ℕ) (at : ℕ) (to′ : List ℕ) (r : ℕ) : Type 0 where
-  pub content : to′ ≡ sets to at from
-  pub end : r ≡ at + length from
 
 -- Some sets were strung together from the front of two lists.
 pub record Strung (ss : List (List ℕ)) (ms es ms′ es′ : List ℕ) : Type 0 where

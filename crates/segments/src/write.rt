@@ -3,21 +3,8 @@ ghost use mathlib.Core.Path.{_≡_};
 ghost use Prim.Native.Nat.{_+_, _*_, _≤_};
 ghost use lib.ListN.{length};
 ghost use lib.Seq.{sets};
-ghost use Rattle.segments.specs.Steps.{Parts, partsOf, inOrder, Copied, Strung, RoomForSets, Described, RoomForRulings, Picture};
+ghost use Rattle.segments.specs.Steps.{Parts, partsOf, inOrder, Strung, RoomForSets, Described, RoomForRulings, Picture};
 use rects::Rect;
-
-// Copies a list to a place of another, and returns its end there.
-fn copy(from: &[u32], to: &mut [u32], at: usize) -> usize
-    requires { ⌜ at + length (now from) ≤ length (now to) ⌝ }
-    ensures { λ r. ⌜ Copied (now (from .entry)) (now (to .entry)) at (now (to .exit)) r ⌝ }
-{
-    let mut i = 0;
-    while i < from.len() {
-        to[at + i] = from[i];
-        i += 1;
-    }
-    at + i
-}
 
 // Strings the sets of a listing together, in the given order, with their ends.
 pub fn write_sets(
@@ -37,7 +24,7 @@ pub fn write_sets(
     let mut place = 0;
     while place < count {
         let set = sets::members_of(listed, listed_ends, count, order[place] as usize);
-        at = copy(set, members, at);
+        at = lists::append(set, members, at);
         ends[place] = at as u32;
         place += 1;
     }

@@ -15,4 +15,3 @@ pub mod Trails
 pub mod Sizes
 pub mod Labels
 pub mod Listings
-pub mod Answers

@@ -80,15 +80,6 @@ pub record Listing (n : ℕ) (p m e p′ m′ e′ : List ℕ) (r : ℕ) : Type 
   pub ends : e′ ≡ written (endsFrom 0 (classes n (root p))) e
   pub labels : p′ ≡ written (map (root p) (below n)) p
 
--- What a call that lists sets leaves: accepted, 0, the sets strung together, their ends and their count; refused, 1, and every list as it was.
-pub record Answered (fits : Bool) (ss : List (List ℕ)) (p m e w p′ m′ e′ w′ : List ℕ) (r k : ℕ) : Type 0 where
-  pub number : r ≡ cond fits 0 1
-  pub count : k ≡ cond fits (length ss) 0
-  pub members : m′ ≡ cond fits (written (concat ss) m) m
-  pub ends : e′ ≡ cond fits (written (endsFrom 0 ss) e) e
-  pub parents-kept : fits ≡ false → p′ ≡ p
-  pub work-kept : fits ≡ false → w′ ≡ w
-
 -- f gives each index of the domain the smallest index of its closed set.
 pub record Represents (D : ℕ → Type 0) (R : ℕ → ℕ → Type 0) (f : ℕ → ℕ) : Type 0 where
   pub stays : (i : ℕ) → D i → D (f i)

@@ -33,7 +33,8 @@ fn collect(
     keys: &mut [u64],
 ) -> usize
     requires { ⌜ Given (now rects) (now directions) (now chosen) × IndexesBelow (length (now chosen)) (now set) × (length (now set) ≤ length (now keys)) ⌝ }
-    ensures { λ r. ⌜ Collected horizontal (rulingAt (now (rects .entry)) (now (directions .entry)) (now (chosen .entry))) (now (set .entry)) (now (keys .exit)) r ⌝ }
+    ensures { λ r. ⌜ Collected horizontal (rulingAt (now (rects .entry)) (now (directions .entry)) (now (chosen .entry))) (now (set .entry))
+        (now (keys .exit)) r ⌝ }
 {
     let mut n = 0;
     let mut k = 0;
@@ -63,8 +64,10 @@ fn count_lines(
     order: &mut [u32],
     work: &mut [u32],
 ) -> Count
-    requires { ⌜ Given (now rects) (now directions) (now chosen) × IndexesBelow (length (now chosen)) (now set) × (length (now set) ≤ length (now keys)) × (length (now set) ≤ length (now order)) × (length (now set) ≤ length (now work)) ⌝ }
-    ensures { λ r. ⌜ LinesCounted cluster horizontal (rulingAt (now (rects .entry)) (now (directions .entry)) (now (chosen .entry))) (now (set .entry)) (r .rulings) (r .lines) ⌝ }
+    requires { ⌜ Given (now rects) (now directions) (now chosen) × IndexesBelow (length (now chosen)) (now set) × (length (now set) ≤ length (now keys))
+        × (length (now set) ≤ length (now order)) × (length (now set) ≤ length (now work)) ⌝ }
+    ensures { λ r. ⌜ LinesCounted cluster horizontal (rulingAt (now (rects .entry)) (now (directions .entry)) (now (chosen .entry))) (now (set .entry))
+        (r .rulings) (r .lines) ⌝ }
 {
     let n = collect(rects, directions, chosen, set, horizontal, keys);
     let lines = lines::lines(&keys[..n], cluster, order, work);
@@ -98,8 +101,10 @@ pub fn shape_of(
     order: &mut [u32],
     work: &mut [u32],
 ) -> Shape
-    requires { ⌜ Given (now rects) (now directions) (now chosen) × IndexesBelow (length (now chosen)) (now set) × (length (now set) ≤ length (now keys)) × (length (now set) ≤ length (now order)) × (length (now set) ≤ length (now work)) ⌝ }
-    ensures { λ r. ⌜ Shaped limits (rulingAt (now (rects .entry)) (now (directions .entry)) (now (chosen .entry))) (now (set .entry)) (r .table) (r .«row_lines») (r .«column_lines») ⌝ }
+    requires { ⌜ Given (now rects) (now directions) (now chosen) × IndexesBelow (length (now chosen)) (now set) × (length (now set) ≤ length (now keys))
+        × (length (now set) ≤ length (now order)) × (length (now set) ≤ length (now work)) ⌝ }
+    ensures { λ r. ⌜ Shaped limits (rulingAt (now (rects .entry)) (now (directions .entry)) (now (chosen .entry))) (now (set .entry)) (r .table)
+        (r .«row_lines») (r .«column_lines») ⌝ }
 {
     let h = count_lines(
         rects,

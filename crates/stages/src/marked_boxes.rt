@@ -23,11 +23,13 @@ pub fn boxes_in(
     tags: &mut [&mut [u32]; 2],
     values: &mut [&mut [f64]; 3],
 ) -> usize
-    requires { ⌜ Boxes.Ready (now ink) (sides .w) (now glyphs) (boxLimitsOf dpi xheight p) (listAt 1 (now rects)) (listAt 1 (now tags)) (listAt 2 (now values)) ⌝ }
+    requires { ⌜ Boxes.Ready (now ink) (sides .w) (now glyphs) (boxLimitsOf dpi xheight p) (listAt 1 (now rects)) (listAt 1 (now tags))
+        (listAt 2 (now values)) ⌝ }
     ensures { λ n. ⌜ Boxes.Made (now (ink .entry)) (sides .w) (now (glyphs .entry)) (boxLimitsOf dpi xheight p)
         (listAt 1 (now (rects .entry))) (listAt 1 (now (tags .entry))) (listAt 2 (now (values .entry)))
         (listAt 1 (now (rects .exit))) (listAt 1 (now (tags .exit))) (listAt 2 (now (values .exit))) n
-        × Only 1 (now (rects .entry)) (now (rects .exit)) × Only 1 (now (tags .entry)) (now (tags .exit)) × Only 2 (now (values .entry)) (now (values .exit)) ⌝ }
+        × Only 1 (now (rects .entry)) (now (rects .exit)) × Only 1 (now (tags .entry)) (now (tags .exit)) × Only 2 (now (values .entry))
+        (now (values .exit)) ⌝ }
 {
     let limits = boxes::limits::limits_of(dpi, xheight, p);
     boxes::write::find(ink, sides.w, glyphs, limits, rects[1], tags[1], values[2])
@@ -50,8 +52,26 @@ fn grids_of(
     requires { ⌜ SettingsPassed p xheight × (4 * n ≤ length (now boxes)) × Grids.PassedBoxes (take (4 * n) (now boxes)) × Grids.Roomy n
         (record { members = now members; ends = now ends; reading = now reading; numbers = now numbers; parents = now «box_parents»; work = now «box_order»; keys = now «box_keys» }) ⌝ }
     ensures { λ r. ⌜ Grids.Filled (take (4 * n) (now (boxes .entry))) (alignLimit p xheight) (p .«grid_min_boxes»)
-        (record { members = now (members .entry); ends = now (ends .entry); reading = now (reading .entry); numbers = now (numbers .entry); parents = now («box_parents» .entry); work = now («box_order» .entry); keys = now («box_keys» .entry) })
-        (record { members = now (members .exit); ends = now (ends .exit); reading = now (reading .exit); numbers = now (numbers .exit); parents = now («box_parents» .exit); work = now («box_order» .exit); keys = now («box_keys» .exit) })
+        (record {
+          members = now (members .entry);
+          ends = now (ends .entry);
+          reading = now (reading .entry);
+          numbers = now (numbers .entry);
+          parents = now
+              («box_parents» .entry);
+          work = now («box_order» .entry);
+          keys = now («box_keys» .entry);
+        })
+        (record {
+          members = now (members .exit);
+          ends = now (ends .exit);
+          reading = now (reading .exit);
+          numbers = now (numbers .exit);
+          parents = now
+              («box_parents» .exit);
+          work = now («box_order» .exit);
+          keys = now («box_keys» .exit);
+        })
         (r .sets) (r .grids) ⌝ }
 {
     let limit = grids::core::limit(p, xheight);
@@ -113,8 +133,10 @@ pub fn grids_in(
         })
         (r .sets) (r .grids)
         × Kept (now (rects .entry)) (now (rects .exit))
-        × Only 2 (now (members .entry)) (now (members .exit)) × Only 2 (now (ends .entry)) (now (ends .exit)) × Only 1 (now (chosen .entry)) (now (chosen .exit))
-        × Only 1 (now (numbers .entry)) (now (numbers .exit)) × Only 1 (now (parents .entry)) (now (parents .exit)) × Only 1 (now (order .entry)) (now (order .exit))
+        × Only 2 (now (members .entry)) (now (members .exit)) × Only 2 (now (ends .entry)) (now (ends .exit)) × Only 1 (now (chosen .entry))
+        (now (chosen .exit))
+        × Only 1 (now (numbers .entry)) (now (numbers .exit)) × Only 1 (now (parents .entry)) (now (parents .exit)) × Only 1 (now (order .entry))
+        (now (order .exit))
         × Only 0 (now («box_keys» .entry)) (now («box_keys» .exit)) ⌝ }
 {
     let boxes = &mut rects[1][..];

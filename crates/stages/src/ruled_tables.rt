@@ -138,7 +138,8 @@ pub fn tables_in(
           work = listAt 0 (now order);
           keys = listAt 0 (now keys);
         }) ⌝ }
-    ensures { λ r. ⌜ Filled (take (4 * n) (listAt 0 (now (rects .entry)))) (take n (listAt 0 (now (tags .entry)))) (take k (listAt 0 (now (chosen .entry)))) (tableLimitsOf p xheight)
+    ensures { λ r. ⌜ Filled (take (4 * n) (listAt 0 (now (rects .entry)))) (take n (listAt 0 (now (tags .entry))))
+        (take k (listAt 0 (now (chosen .entry)))) (tableLimitsOf p xheight)
         (record {
           members = listAt 1 (now (members .entry));
           ends = listAt 1 (now (ends .entry));
@@ -169,10 +170,14 @@ pub fn tables_in(
         })
         (r .sets) (r .tables) (r .free)
         × Kept (now (rects .entry)) (now (rects .exit)) × Kept (now (tags .entry)) (now (tags .exit)) × Kept (now (chosen .entry)) (now (chosen .exit))
-        × Only 1 (now (members .entry)) (now (members .exit)) × Only 1 (now (ends .entry)) (now (ends .exit)) × Only 0 (now (numbers .entry)) (now (numbers .exit))
-        × Only 0 (now (bounds .entry)) (now (bounds .exit)) × Only 0 (now (rows .entry)) (now (rows .exit)) × Only 0 (now (columns .entry)) (now (columns .exit))
-        × Only 0 (now (rulings .entry)) (now (rulings .exit)) × Only 1 (now (values .entry)) (now (values .exit)) × Only 0 (now (rest .entry)) (now (rest .exit))
-        × Only 0 (now (parents .entry)) (now (parents .exit)) × Only 0 (now (order .entry)) (now (order .exit)) × Only 0 (now (keys .entry)) (now (keys .exit)) ⌝ }
+        × Only 1 (now (members .entry)) (now (members .exit)) × Only 1 (now (ends .entry)) (now (ends .exit)) × Only 0 (now (numbers .entry))
+        (now (numbers .exit))
+        × Only 0 (now (bounds .entry)) (now (bounds .exit)) × Only 0 (now (rows .entry)) (now (rows .exit)) × Only 0 (now (columns .entry))
+        (now (columns .exit))
+        × Only 0 (now (rulings .entry)) (now (rulings .exit)) × Only 1 (now (values .entry)) (now (values .exit)) × Only 0 (now (rest .entry))
+        (now (rest .exit))
+        × Only 0 (now (parents .entry)) (now (parents .exit)) × Only 0 (now (order .entry)) (now (order .exit)) × Only 0 (now (keys .entry))
+        (now (keys .exit)) ⌝ }
 {
     let rects = &mut rects[0][..];
     let directions = &mut tags[0][..];

@@ -29,13 +29,18 @@ pub fn rulings_in(
 ) -> usize
     requires { ⌜ SettingsPassed p xheight
         × Ready (listAt 0 (now levelled)) (sides .w) (sides .h) (now pieces) (listAt 0 (now rects)) (listAt 0 (now tags)) (listAt 0 (now values))
-        (listAt 0 (now members)) (listAt 0 (now ends)) (listAt 0 (now parents)) (listAt 0 (now listed)) (listAt 0 (now «listed_ends»)) (listAt 0 (now order)) (listAt 0 (now keys)) ⌝ }
+        (listAt 0 (now members)) (listAt 0 (now ends)) (listAt 0 (now parents)) (listAt 0 (now listed)) (listAt 0 (now «listed_ends»))
+        (listAt 0 (now order)) (listAt 0 (now keys)) ⌝ }
     ensures { λ n. ⌜ Made (listAt 0 (now (levelled .entry))) (sides .w) (sides .h) (now (pieces .entry)) (setsOf xheight (now (pieces .entry)) p)
-        (listAt 0 (now (rects .entry))) (listAt 0 (now (tags .entry))) (listAt 0 (now (values .entry))) (listAt 0 (now (members .entry))) (listAt 0 (now (ends .entry)))
-        (listAt 0 (now (rects .exit))) (listAt 0 (now (tags .exit))) (listAt 0 (now (values .exit))) (listAt 0 (now (members .exit))) (listAt 0 (now (ends .exit))) n
+        (listAt 0 (now (rects .entry))) (listAt 0 (now (tags .entry))) (listAt 0 (now (values .entry))) (listAt 0 (now (members .entry)))
+        (listAt 0 (now (ends .entry)))
+        (listAt 0 (now (rects .exit))) (listAt 0 (now (tags .exit))) (listAt 0 (now (values .exit))) (listAt 0 (now (members .exit)))
+        (listAt 0 (now (ends .exit))) n
         × Kept (now (levelled .entry)) (now (levelled .exit)) × Only 0 (now (rects .entry)) (now (rects .exit)) × Only 0 (now (tags .entry)) (now (tags .exit))
-        × Only 0 (now (values .entry)) (now (values .exit)) × Only 0 (now (members .entry)) (now (members .exit)) × Only 0 (now (ends .entry)) (now (ends .exit))
-        × Only 0 (now (parents .entry)) (now (parents .exit)) × Only 0 (now (listed .entry)) (now (listed .exit)) × Only 0 (now («listed_ends» .entry)) (now («listed_ends» .exit))
+        × Only 0 (now (values .entry)) (now (values .exit)) × Only 0 (now (members .entry)) (now (members .exit)) × Only 0 (now (ends .entry))
+        (now (ends .exit))
+        × Only 0 (now (parents .entry)) (now (parents .exit)) × Only 0 (now (listed .entry)) (now (listed .exit)) × Only 0 (now («listed_ends» .entry))
+        (now («listed_ends» .exit))
         × Only 0 (now (order .entry)) (now (order .exit)) × Only 0 (now (keys .entry)) (now (keys .exit)) ⌝ }
 {
     let across = params::pixels::limit_u32(p.merge_across_xh, xheight);
@@ -69,7 +74,8 @@ fn split_of(
     faint: &mut [u32],
 ) -> Parted
     requires { ⌜ (n ≤ length (now contrasts)) × RoomForPlaces (take n (now contrasts)) (now printed) (now faint) ⌝ }
-    ensures { λ r. ⌜ SplitByContrast p (take n (now (contrasts .entry))) (now (printed .entry)) (now (faint .entry)) (now (printed .exit)) (now (faint .exit)) (r .printed) (r .faint) ⌝ }
+    ensures { λ r. ⌜ SplitByContrast p (take n (now (contrasts .entry))) (now (printed .entry)) (now (faint .entry)) (now (printed .exit))
+        (now (faint .exit)) (r .printed) (r .faint) ⌝ }
 {
     segments::printed::split(p, &contrasts[..n], printed, faint)
 }
@@ -85,7 +91,8 @@ pub fn split_in(
     requires { ⌜ (n ≤ length (listAt 0 (now values))) × RoomForPlaces (take n (listAt 0 (now values))) (listAt 0 (now chosen)) (listAt 1 (now rest)) ⌝ }
     ensures { λ r. ⌜ SplitByContrast p (take n (listAt 0 (now (values .entry)))) (listAt 0 (now (chosen .entry))) (listAt 1 (now (rest .entry)))
         (listAt 0 (now (chosen .exit))) (listAt 1 (now (rest .exit))) (r .printed) (r .faint)
-        × Kept (now (values .entry)) (now (values .exit)) × Only 0 (now (chosen .entry)) (now (chosen .exit)) × Only 1 (now (rest .entry)) (now (rest .exit)) ⌝ }
+        × Kept (now (values .entry)) (now (values .exit)) × Only 0 (now (chosen .entry)) (now (chosen .exit)) × Only 1 (now (rest .entry))
+        (now (rest .exit)) ⌝ }
 {
     let contrasts = &mut values[0][..];
     split_of(p, n, contrasts, chosen[0], rest[1])

@@ -1,4 +1,3 @@
 -- The laws of the passes over the sets.
-pub mod Stores
 pub mod Strung
 pub mod Passes

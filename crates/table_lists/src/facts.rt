@@ -13,19 +13,6 @@ use meeting::ends;
 use shapes::limits::Limits;
 use shapes::shape;
 
-// Writes the set from place `at` on, and returns its end.
-fn append(set: &[u32], list: &mut [u32], at: usize) -> usize
-    requires { ⌜ at + length (now set) ≤ length (now list) ⌝ }
-    ensures { λ r. ⌜ (now (list .exit) ≡ sets (now (list .entry)) at (now (set .entry))) × (r ≡ at + length (now (set .entry))) ⌝ }
-{
-    let mut k = 0;
-    while k < set.len() {
-        list[at + k] = set[k];
-        k += 1;
-    }
-    at + set.len()
-}
-
 // How many tables there are, and how many free rulings.
 pub struct Found {
     pub tables: usize,
@@ -69,7 +56,7 @@ pub fn choose(
             columns[tables] = (found.column_lines - 1) as u32;
             tables += 1;
         } else {
-            at = append(set, free, at);
+            at = lists::append(set, free, at);
         }
         k += 1;
     }

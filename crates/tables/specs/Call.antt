@@ -50,19 +50,9 @@ pub record Lent : Type 0 where
 abbrev pub hasRoom : Given → Lent → Bool
 hasRoom g l =
     let n = count (g .rects) in
-    leb n (length (l .numbers))
-    && leb (4 * n) (length (l .bounds))
-    && leb n (length (l .rows))
-    && leb n (length (l .columns))
-    && leb n (length (l .rulings))
-    && leb n (length (l .shares))
-    && leb n (length (l .printed-members))
-    && leb n (length (l .printed-ends))
-    && leb n (length (l .free))
-    && leb n (length (l .chosen))
-    && leb n (length (l .parents))
-    && leb n (length (l .work))
-    && leb n (length (l .keys))
+    leb n (length (l .numbers)) && leb (4 * n) (length (l .bounds)) && leb n (length (l .rows)) && leb n (length (l .columns))
+    && leb n (length (l .rulings)) && leb n (length (l .shares)) && leb n (length (l .printed-members)) && leb n (length (l .printed-ends))
+    && leb n (length (l .free)) && leb n (length (l .chosen)) && leb n (length (l .parents)) && leb n (length (l .work)) && leb n (length (l .keys))
 
 -- The questions that it puts, in document 01's order.
 abbrev pub questions : Given → Lent → List Question

@@ -1,7 +1,7 @@
 // Calls for the differential runs and the bench, which the product does not have: closed sets of
 // numbers within a gap and of given pairs (crates `gaps` and `pairs`), and the sort (crate `order`).
 ghost use lib.ListN.{length};
-ghost use Rattle.lists.specs.Lists.{roomFor};
+ghost use Rattle.gaps.specs.Answers.{roomFor};
 ghost use Rattle.gaps.specs.Gaps.{GapSets};
 ghost use Rattle.pairs.specs.Pairs.{PairSets};
 ghost use Rattle.order.specs.Order.{Sorts};
@@ -17,7 +17,8 @@ pub extern "C" fn testing_gap_sets(
 ) -> gaps::Answer
     ensures { λ r.
         ⌜ GapSets (now (values .entry)) gap
-        (roomFor (length (now (values .entry))) (length (now (parents .entry))) (length (now (members .entry))) (length (now (ends .entry))) (length (now (work .entry))))
+        (roomFor (length (now (values .entry))) (length (now (parents .entry))) (length (now (members .entry))) (length (now (ends .entry)))
+        (length (now (work .entry))))
         (now (parents .entry)) (now (members .entry)) (now (ends .entry)) (now (work .entry))
         (now (parents .exit)) (now (members .exit)) (now (ends .exit)) (now (work .exit)) (r .number) (r .count) ⌝ }
 {
@@ -32,7 +33,7 @@ pub extern "C" fn testing_pair_sets(
     members: &mut [u32],
     ends: &mut [u32],
     work: &mut [u32],
-) -> pairs::Answer
+) -> gaps::Answer
     ensures { λ r.
         ⌜ PairSets n (now (pairs .entry))
         (now (parents .entry)) (now (members .entry)) (now (ends .entry)) (now (work .entry))

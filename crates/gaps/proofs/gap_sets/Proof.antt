@@ -5,10 +5,10 @@ use mathlib.Core.List.{List}
 use Prim.Native.Nat.{ℕ}
 use lib.ListN.{length}
 use borrow.Author.Needs.{needs}
-use Rattle.lists.proofs.Rooms.{rooms}
+use Rattle.gaps.proofs.Rooms.{rooms}
 use Rattle.sets.specs.Closed.{Below}
 use Rattle.sets.specs.Steps.{Joins, Listing}
-use Rattle.sets.proofs.Answers.{accepted, refused}
+use Rattle.gaps.proofs.Answers.{accepted, refused}
 use Rattle.sets.proofs.Grown.{closedSets-listed}
 use Rattle.sets.proofs.Listings.{joins-closedSets}
 use Rattle.gaps.specs.Gaps.{touch, Touch, GapSets}

@@ -7,12 +7,12 @@ use lib.Dec.{ltb}
 use lib.ListN.{length, getD}
 use borrow.Author.Needs.{needs}
 use borrow.Author.Tests.{ltb-true}
-use Rattle.lists.specs.Lists.{roomFor}
-use Rattle.lists.proofs.Rooms.{rooms}
+use Rattle.gaps.specs.Answers.{roomFor}
+use Rattle.gaps.proofs.Rooms.{rooms}
 use Rattle.lists.proofs.Every.{and-first, and-second, every-at}
 use Rattle.sets.specs.Closed.{Below}
 use Rattle.sets.specs.Steps.{Joins, Listing, Room}
-use Rattle.sets.proofs.Answers.{accepted, refused}
+use Rattle.gaps.proofs.Answers.{accepted, refused}
 use Rattle.sets.proofs.Grown.{closedSets-listed}
 use Rattle.sets.proofs.Listings.{joins-closedSets}
 use Rattle.pairs.specs.Pairs.{paired, Paired, indexesBelow, IndexesBelow, accepts, PairSets}

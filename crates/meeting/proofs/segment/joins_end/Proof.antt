@@ -4,7 +4,8 @@ use mathlib.Core.Bool.{Bool, true, _&&_}
 use Prim.Native.Nat.{ℕ, _+_, _*_}
 use lib.Dec.{leb}
 use Rattle.meeting.specs.declared.segment.Segment.{Segment}
-use Rattle.meeting.specs.Segments.{opposite, spanHolds, distance, joinsEnd}
+use Rattle.meeting.specs.Segments.{opposite, spanHolds, joinsEnd}
+use Rattle.rects.specs.Rects.{distance}
 use borrow.Author.Needs.{needs}
 use Rattle.meeting.proofs.segment.joins_end.Statement.{statement}
 use Rattle.meeting.proofs.segment.joins_end.Tie as tie

@@ -5,10 +5,11 @@ use Prim.Native.Nat.{ℕ, _+_, _-_, _^_, _≤_, _<_, zero-le}
 use native.Mathlib.Omega.{arith}
 use borrow.Author.Needs.{needs, scaled-fits}
 use lib.ListN.{length, getD, set, length-set, length-map}
+use lib.Seq.{sets}
 use Rattle.lists.specs.Lists.{below, concat, written}
 use Rattle.lists.proofs.Keep.{length-values}
 use Rattle.sets.specs.Listing.{membersOf, endsFrom}
-use Rattle.segments.specs.Steps.{inOrder, Copied, Strung, RoomForSets}
+use Rattle.segments.specs.Steps.{inOrder, Strung, RoomForSets}
 use Rattle.segments.proofs.Runs.{total, total-next, total-room, run-written, end-written}
 use Rattle.segments.proofs.write.write_sets.Statement.{statement}
 use Rattle.segments.proofs.write.write_sets.Tie as tie
@@ -28,6 +29,10 @@ record Strings (ls le : List ℕ) (n : ℕ) (order ms₀ es₀ ms es : List ℕ)
 begun : (ls le : List ℕ) (n : ℕ) (order ms es : List ℕ) → Strings ls le n order ms es ms es 0 0
 begun ls le n order ms es = record { up-to = zero-le; members-long = refl; ends-long = refl; place = refl; members = refl; ends = refl }
 
+-- what appending leaves, and where it ends
+abbrev Copied : List ℕ → List ℕ → ℕ → List ℕ → ℕ → Type 0
+Copied from to at to′ r = (to′ ≡ sets to at from) × (r ≡ at + length from)
+
 module _ (ls le : List ℕ) (n : ℕ) (order ms₀ es₀ ms es : List ℕ) (at k : ℕ) (W : Strings ls le n order ms₀ es₀ ms es at k) (l : k < n) (R : RoomForSets (inOrder ls le n order) ms₀ es₀) where
   -- the set fits behind the others
   fits : {s : List ℕ} → s ≡ nth ls le n order k → at + length s ≤ length ms
@@ -38,7 +43,7 @@ module _ (ls le : List ℕ) (n : ℕ) (order ms₀ es₀ ms es : List ℕ) (at k
   end-small : {s ms′ : List ℕ} {r : ℕ} → s ≡ nth ls le n order k → Copied s ms at ms′ r → r < 2 ^ 32
   end-small {s} e C =
       let g : length s ≡ length (nth ls le n order k) = ap length e in
-      omega (arith, total-room (nth ls le n order) k n l, W .place, C .end, R .small)
+      omega (arith, total-room (nth ls le n order) k n l, W .place, C .1, R .small)
 
   end-room : k < length es
   end-room = omega (arith, length-values (nth ls le n order) n, R .ends, W .ends-long)
@@ -46,13 +51,13 @@ module _ (ls le : List ℕ) (n : ℕ) (order ms₀ es₀ ms es : List ℕ) (at k
   turn : {s ms′ : List ℕ} {r : ℕ} → s ≡ nth ls le n order k → length ms′ ≡ length ms → Copied s ms at ms′ r → Strings ls le n order ms₀ es₀ ms′ (set es k r) r (k + 1)
   turn {s} {ms′} {r} e long C =
       let g : length s ≡ length (nth ls le n order k) = ap length e in
-      let next : r ≡ total (nth ls le n order) (k + 1) = omega (arith, total-next (nth ls le n order) k, W .place, C .end) in
+      let next : r ≡ total (nth ls le n order) (k + 1) = omega (arith, total-next (nth ls le n order) k, W .place, C .1) in
       record {
         up-to = omega arith;
         members-long = long ∙ W .members-long;
         ends-long = length-set es k r ∙ W .ends-long;
         place = next;
-        members = C .content ∙ run-written (nth ls le n order) ms₀ (W .members) (W .place) e (omega (arith, total-room (nth ls le n order) k n l, W .place, R .members));
+        members = C .0 ∙ run-written (nth ls le n order) ms₀ (W .members) (W .place) e (omega (arith, total-room (nth ls le n order) k n l, W .place, R .members));
         ends = end-written (nth ls le n order) es₀ (W .ends) (omega (arith, end-room, W .ends-long)) next;
       }
 
@@ -81,8 +86,8 @@ cast-members-of c = omega (arith, c .shared-slice-known4 .given (c .before .befo
 members-of-requires : tie.Need-members-of-requires Inv-loop μ-loop
 members-of-requires c κs = tt
 
-copy-requires : tie.Need-copy-requires Inv-loop μ-loop
-copy-requires c κs =
+append-requires : tie.Need-append-requires Inv-loop μ-loop
+append-requires c κs =
     let start = c .before .before .before .before .before .before .before .before .before .before in
     let a = start .args in
     fits (a .listed .now) (a .listed-ends .now) (a .count) (a .order .now) (a .members .now) (a .ends .now) (c .before .before .before .before .loop .members) (c .before .before .before .before .loop .ends) (c .before .before .before .before .loop .at) (c .before .before .before .before .loop .place) (c .before .before .before .before .loop .inv) (c .before .before .before .loop-test .taken) (start .pre .1) (c .before .members-of .ensures)
@@ -91,7 +96,7 @@ cast-ends : tie.Need-cast-ends Inv-loop μ-loop
 cast-ends c =
     let start = c .before .before .before .before .before .before .before .before .before .before .before .before .before in
     let a = start .args in
-    record { fits = end-small (a .listed .now) (a .listed-ends .now) (a .count) (a .order .now) (a .members .now) (a .ends .now) (c .before .before .before .before .before .before .before .loop .members) (c .before .before .before .before .before .before .before .loop .ends) (c .before .before .before .before .before .before .before .loop .at) (c .before .before .before .before .before .before .before .loop .place) (c .before .before .before .before .before .before .before .loop .inv) (c .before .before .before .before .before .before .loop-test .taken) (start .pre .1) (c .before .before .before .before .members-of .ensures) (c .before .before .copy .ensures) }
+    record { fits = end-small (a .listed .now) (a .listed-ends .now) (a .count) (a .order .now) (a .members .now) (a .ends .now) (c .before .before .before .before .before .before .before .loop .members) (c .before .before .before .before .before .before .before .loop .ends) (c .before .before .before .before .before .before .before .loop .at) (c .before .before .before .before .before .before .before .loop .place) (c .before .before .before .before .before .before .before .loop .inv) (c .before .before .before .before .before .before .loop-test .taken) (start .pre .1) (c .before .before .before .before .members-of .ensures) (c .before .before .append .ensures) }
 
 mul-ends : tie.Need-mul-ends Inv-loop μ-loop
 mul-ends c =
@@ -114,7 +119,7 @@ loop-again : tie.Need-loop-again Inv-loop μ-loop
 loop-again c =
     let start = c .before .before .before .before .before .before .before .before .before .before .before .before .before in
     let a = start .args in
-    turn (a .listed .now) (a .listed-ends .now) (a .count) (a .order .now) (a .members .now) (a .ends .now) (c .before .before .before .before .before .before .before .loop .members) (c .before .before .before .before .before .before .before .loop .ends) (c .before .before .before .before .before .before .before .loop .at) (c .before .before .before .before .before .before .before .loop .place) (c .before .before .before .before .before .before .before .loop .inv) (c .before .before .before .before .before .before .loop-test .taken) (start .pre .1) (c .before .before .before .before .members-of .ensures) (c .before .before .copy .kept .1 .0) (c .before .before .copy .ensures)
+    turn (a .listed .now) (a .listed-ends .now) (a .count) (a .order .now) (a .members .now) (a .ends .now) (c .before .before .before .before .before .before .before .loop .members) (c .before .before .before .before .before .before .before .loop .ends) (c .before .before .before .before .before .before .before .loop .at) (c .before .before .before .before .before .before .before .loop .place) (c .before .before .before .before .before .before .before .loop .inv) (c .before .before .before .before .before .before .loop-test .taken) (start .pre .1) (c .before .before .before .before .members-of .ensures) (c .before .before .append .kept .1 .0) (c .before .before .append .ensures)
 
 same-length : tie.Need-same-length Inv-loop μ-loop
 same-length c = c .before .loop .inv .members-long
@@ -139,7 +144,7 @@ write-sets-spec =
     shared-slice-read-members-of
     cast-members-of
     members-of-requires
-    copy-requires
+    append-requires
     cast-ends
     mul-ends
     slice-write-ends

@@ -4,8 +4,8 @@ use mathlib.Core.Bool.{true, _&&_}
 use Prim.Native.Nat.{ℕ, _≤_, _<_, _^_}
 use lib.Dec.{leb, ltb}
 use borrow.Author.Tests.{ltb-true, leb-true}
-use Rattle.lists.specs.Lists.{roomFor}
+use Rattle.gaps.specs.Answers.{roomFor}
 use Rattle.lists.proofs.Every.{and-first, and-second}
 
 pub record Rooms (n a b c d : ℕ) : Type 0 where
   pub small : n < 2 ^ 32

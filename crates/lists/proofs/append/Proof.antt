@@ -1,4 +1,4 @@
--- `facts::append` meets its contract: after k turns the first k members are stored.
+-- `lists::append` meets its contract: after k turns the first k entries are stored.
 use mathlib.Core.Path.{_≡_, refl, sym, ap, _∙_}
 use mathlib.Core.List.{List}
 use Prim.Native.Nat.{ℕ, _+_, _-_, _≤_, _<_}
@@ -6,9 +6,9 @@ use native.Mathlib.Numerals.{add-one}
 use native.Mathlib.Omega.{arith}
 use lib.ListN.{length, getD, set, take, length-set}
 use lib.Seq.{sets, take-suc, take-all, length-take-le}
-use Rattle.table_lists.proofs.Stores.{sets-more}
-use Rattle.table_lists.proofs.facts.append.Statement.{statement}
-use Rattle.table_lists.proofs.facts.append.Tie as tie
+use Rattle.lists.proofs.Stores.{sets-more}
+use Rattle.lists.proofs.append.Statement.{statement}
+use Rattle.lists.proofs.append.Tie as tie
 
 record Run (xs l : List ℕ) (at : ℕ) (l′ : List ℕ) (k : ℕ) : Type 0 where
   up-to : k ≤ length xs
@@ -31,10 +31,10 @@ done : {xs l l′ : List ℕ} {at k : ℕ} → Run xs l at l′ k → length xs 
 done {xs} {l} {at = at} {k} R h = R .content ∙ ap (sets l at) (take-all k xs h)
 
 abbrev Inv-loop : tie.InvT-loop
-Inv-loop set list₀ at k₀ list k = Run set list₀ at list k
+Inv-loop xs list₀ at k₀ list k = Run xs list₀ at list k
 
 abbrev μ-loop : tie.MeasureT-loop
-μ-loop set list₀ at k₀ list k = length set - k
+μ-loop xs list₀ at k₀ list k = length xs - k
 
 loop-holds : tie.Need-loop-holds Inv-loop μ-loop
 loop-holds c = record { up-to = omega arith; long = refl; content = refl }

@@ -5,8 +5,9 @@ use mathlib.Core.List.{List}
 use Prim.Native.Nat.{ℕ}
 use lib.ListN.{length}
 use Rattle.lists.specs.Lists.{concat, written}
 use Rattle.sets.specs.Listing.{endsFrom}
-use Rattle.sets.specs.Steps.{Listing, Answered, classes, root}
+use Rattle.sets.specs.Steps.{Listing, classes, root}
+use Rattle.gaps.specs.Answers.{Answered}
 
 pub accepted : {fits : Bool} {n : ℕ} {ss : List (List ℕ)} {p m e w q q′ m′ e′ w′ : List ℕ} {k : ℕ} → fits ≡ true → classes n (root q) ≡ ss → Listing n q m e q′ m′ e′ k
     → Answered fits ss p m e w q′ m′ e′ w′ 0 k

@@ -1,0 +1,3 @@
+-- Laws of calls that list sets.
+pub mod Answers
+pub mod Rooms
