@@ -1,15 +1,18 @@
 -- A finding as C gets it: found 1 and its numbers, or all 0 where there is none.
+use Prim.Native.Nat.{ℕ}
 use Rattle.math.specs.Constants.{zero}
+use Rattle.layout.specs.declared.rect.PageRect.{PageRect}
 use Rattle.evidence.specs.declared.finding.Row.{Row}
-use Rattle.evidence.specs.Finding.{rowOf}
+use Rattle.evidence.specs.Finding.{noEvidence, rowOf}
 use Rattle.finding_lists.specs.declared.read.FindingAt.{FindingAt}
 use Rattle.finding_lists.specs.declared.read.FindingAt.the-variants.{Found, Nothing}
 use Rattle.answers.specs.declared.finding_at.FindingAtAnswer.{FindingAtAnswer}
 
-abbrev pub ofRow : Row → FindingAtAnswer
-ofRow r =
+-- 1 where there is a finding, and the numbers of a row.
+abbrev pub ofRow : ℕ → Row → FindingAtAnswer
+ofRow found r =
     record {
-      found = 1;
+      found = found;
       kind = r .kind;
       x0 = r .bbox .x0;
       y0 = r .bbox .y0;
@@ -28,29 +31,13 @@ ofRow r =
       length = r .length;
     }
 
-abbrev pub allZeros : FindingAtAnswer
-allZeros =
-    record {
-      found = 0;
-      kind = 0;
-      x0 = 0;
-      y0 = 0;
-      x1 = 0;
-      y1 = 0;
-      a = 0;
-      b = 0;
-      c = 0;
-      «log_odds» = zero;
-      «first_value» = zero;
-      «first_threshold» = zero;
-      «first_llr» = zero;
-      «second_value» = zero;
-      «second_threshold» = zero;
-      «second_llr» = zero;
-      length = zero;
-    }
+-- All 0.
+abbrev pub zeros : Row
+zeros =
+    let none : PageRect = record { x0 = 0; y0 = 0; x1 = 0; y1 = 0 } in
+    record { bbox = none; kind = 0; a = 0; b = 0; c = 0; «log_odds» = zero; first = noEvidence; second = noEvidence; length = zero }
 
 -- The values of each case, those of a finding by its row: kind number, rectangle, facts, log odds, evidences, a fold's length.
 abbrev pub answerOf : FindingAt → FindingAtAnswer
-answerOf (Found f) = ofRow (rowOf f)
-answerOf Nothing = allZeros
+answerOf (Found f) = ofRow 1 (rowOf f)
+answerOf Nothing = ofRow 0 zeros

@@ -1,7 +1,7 @@
 // A finding read back from its lists (crate `finding_lists`).
 ghost use mathlib.Core.Path.{_≡_};
 ghost use Rattle.finding_lists.specs.Read.{columns, findingAt};
-ghost use Rattle.answers.specs.FindingAt.{ofRow, allZeros, answerOf};
+ghost use Rattle.answers.specs.FindingAt.{ofRow, zeros, answerOf};
 use evidence::finding::Row;
 use finding_lists::read::FindingAt;
 
@@ -28,7 +28,7 @@ pub struct FindingAtAnswer {
 }
 
 fn of_row(row: Row) -> FindingAtAnswer
-    ensures { λ r. ⌜ r ≡ ofRow row ⌝ }
+    ensures { λ r. ⌜ r ≡ ofRow 1 row ⌝ }
 {
     let bbox = row.bbox;
     let first = row.first;
@@ -55,7 +55,7 @@ fn of_row(row: Row) -> FindingAtAnswer
 }
 
 fn nothing() -> FindingAtAnswer
-    ensures { λ r. ⌜ r ≡ allZeros ⌝ }
+    ensures { λ r. ⌜ r ≡ ofRow 0 zeros ⌝ }
 {
     FindingAtAnswer {
         found: 0,

@@ -35,55 +35,23 @@ fromZeroToMillion x = finite x && le zero x && le x million
 -- The 25 float settings.
 abbrev pub floatSettings : RulingsParams → List Float
 floatSettings p =
-    p .«merge_across_xh»
-    ∷ p .«merge_gap_xh»
-    ∷ p .«rule_min_contrast»
-    ∷ p .«fold_min_length_in»
-    ∷ p .«join_tol_xh»
-    ∷ p .«line_cluster_xh»
-    ∷ p .«table_prior»
-    ∷ p .«table_cells_coef»
-    ∷ p .«table_cells_cap»
-    ∷ p .«table_junction_coef»
-    ∷ p .«free_rules_prior»
-    ∷ p .«free_rules_coef»
-    ∷ p .«free_rules_cap»
-    ∷ p .«box_min_xh»
-    ∷ p .«box_min_in»
-    ∷ p .«box_max_xh»
-    ∷ p .«box_overshoot_fraction»
-    ∷ p .«box_aspect_tol»
-    ∷ p .«box_edge_coverage»
-    ∷ p .«box_max_inner_ink»
-    ∷ p .«box_checked_ink»
-    ∷ p .«grid_align_xh»
-    ∷ p .«grid_prior»
-    ∷ p .«grid_coef»
-    ∷ p .«grid_cap»
-    ∷ []
+    p .«merge_across_xh» ∷ p .«merge_gap_xh» ∷ p .«rule_min_contrast» ∷ p .«fold_min_length_in» ∷ p .«join_tol_xh» ∷ p .«line_cluster_xh»
+    ∷ p .«table_prior» ∷ p .«table_cells_coef» ∷ p .«table_cells_cap» ∷ p .«table_junction_coef»
+    ∷ p .«free_rules_prior» ∷ p .«free_rules_coef» ∷ p .«free_rules_cap»
+    ∷ p .«box_min_xh» ∷ p .«box_min_in» ∷ p .«box_max_xh» ∷ p .«box_overshoot_fraction» ∷ p .«box_aspect_tol»
+    ∷ p .«box_edge_coverage» ∷ p .«box_max_inner_ink» ∷ p .«box_checked_ink»
+    ∷ p .«grid_align_xh» ∷ p .«grid_prior» ∷ p .«grid_coef» ∷ p .«grid_cap» ∷ []
 
 -- The eight settings that are lengths, which question 8 is about.
 abbrev pub lengthSettings : RulingsParams → List Float
 lengthSettings p =
-    p .«merge_across_xh»
-    ∷ p .«merge_gap_xh»
-    ∷ p .«join_tol_xh»
-    ∷ p .«line_cluster_xh»
-    ∷ p .«box_min_xh»
-    ∷ p .«box_min_in»
-    ∷ p .«grid_align_xh»
-    ∷ p .«fold_min_length_in»
-    ∷ []
+    p .«merge_across_xh» ∷ p .«merge_gap_xh» ∷ p .«join_tol_xh» ∷ p .«line_cluster_xh»
+    ∷ p .«box_min_xh» ∷ p .«box_min_in» ∷ p .«grid_align_xh» ∷ p .«fold_min_length_in» ∷ []
 
 -- The five settings that are shares, which question 10 is about.
 abbrev pub shareSettings : RulingsParams → List Float
 shareSettings p =
-    p .«box_edge_coverage»
-    ∷ p .«box_max_inner_ink»
-    ∷ p .«box_checked_ink»
-    ∷ p .«box_aspect_tol»
-    ∷ p .«box_overshoot_fraction»
-    ∷ []
+    p .«box_edge_coverage» ∷ p .«box_max_inner_ink» ∷ p .«box_checked_ink» ∷ p .«box_aspect_tol» ∷ p .«box_overshoot_fraction» ∷ []
 
 -- Question 7: all 25 float settings finite, size at most 1,000,000.
 unfoldable pub floatsBounded : RulingsParams → Bool

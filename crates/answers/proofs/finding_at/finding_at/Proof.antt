@@ -24,7 +24,7 @@ nothing-requires : tie.Need-nothing-requires
 nothing-requires c κs = search needs
 
 returns : tie.Need-returns
-returns c = c .of-row .ensures ∙ ap ofRow (c .before .row-of .ensures) ∙ ap answerOf (sym (c .before .before .before .answer .given .1) ∙ c .before .before .before .before .before .finding-at .ensures)
+returns c = c .of-row .ensures ∙ ap (ofRow 1) (c .before .row-of .ensures) ∙ ap answerOf (sym (c .before .before .before .answer .given .1) ∙ c .before .before .before .before .before .finding-at .ensures)
 
 returns-2 : tie.Need-returns-2
 returns-2 c = c .nothing .ensures ∙ ap answerOf (sym (c .before .enum-told .given .1) ∙ c .before .before .before .finding-at .ensures)
