@@ -1,5 +1,6 @@
 -- Steps of levelling follow each other: areas grow, and what was right stays right.
 use mathlib.Core.Path.{_≡_, refl, sym, ap, _∙_, subst}
+use mathlib.Core.Bool.{Bool}
 use mathlib.Core.Logic.{_⊎_, inl, inr, ⊎-elim}
 use mathlib.Core.List.{List}
 use Prim.Native.Nat.{ℕ, _+_, _-_, _*_, _≤_, _<_}
@@ -10,8 +11,8 @@ use lib.ListN.{length, getD, take, drop, replicate, length-drop, length-replicat
 use lib.Seq.{length-take-le}
 use Rattle.layout.specs.declared.sides.Sides.{Sides}
 use Rattle.layout.specs.Tables.{entry}
-use Rattle.layout.specs.Steps.{Run, Painted, Framed, Ready, Shows, Whitened, LevelledArea, InRows, Outside, Columns, Margins, All}
-use Rattle.layout.specs.Level.{columnShows, placeShows, levelled}
+use Rattle.layout.specs.Steps.{Together, Painted, Sheets, Framed, Ready, Shows, Whitened, LevelledArea, InRows, Outside, Columns, Margins, All}
+use Rattle.layout.specs.Level.{columnShows, pageShows, placeShows, levelled}
 use Rattle.layout.proofs.Places.{le-or-lt, rows-apart, row-within, raster-is}
 use Rattle.layout.proofs.Shows.{place-on, place-beside}
 use Rattle.layout.proofs.Parts.{put, put-length, put-inside, put-before, put-after}
@@ -99,28 +100,56 @@ module _ (sides : Sides) (gray : List ℕ) (shear shear-x : List ℤ) (area : �
   pub rows-fewer : (y0 y1 y : ℕ) {a b : List ℕ} → y1 ≤ y → LevelledArea sides gray shear shear-x area y0 y a b → LevelledArea sides gray shear shear-x area y0 y1 a b
   rows-fewer y0 y1 y fewer p = holds-in p (λ x z l h. ((h .0 .0, omega (arith, h .0 .1)), h .1))
 
--- in one row, the places of one run of columns
-module _ (sides : Sides) (gray : List ℕ) (shear shear-x : List ℤ) (out : List ℕ) (from to y down : ℕ) (ready : Ready sides gray shear shear-x out) (run : Run shear from to) (in-rows : y < sides .h) (is-down : down ≡ entry shear from) where
-  -- the row's part that the run takes
-  pub run-within : (to ≤ sides .pw) × ((entry shear-x y + to ≤ sides .w) × (y * sides .w + sides .w ≤ length out))
-  run-within =
+-- a run shows each of its columns
+pub run-painted : (sides : Sides) (gray : List ℕ) (shear : List ℤ) {from y down : ℕ} {out out′ : List ℕ} → down ≡ entry shear from
+    → ((i : ℕ) → from ≤ i → i < from + length out → entry shear i ≡ entry shear from) → Painted (columnShows sides gray down) from y out out′
+    → Painted (pageShows sides gray shear) from y out out′
+run-painted sides gray shear {from} {y} e same P =
+    record {
+      long = P .long;
+      shows = λ k l. P .shows k l ∙ ap (λ (s : ℕ). columnShows sides gray s (from + k) y) (e ∙ sym (same (from + k) (omega arith) (omega arith)));
+    }
+
+-- in one row, the places of columns that are levelled together
+module _ (sides : Sides) (gray : List ℕ) (shear shear-x : List ℤ) (out : List ℕ) (from to y : ℕ) {run : Bool} (ready : Ready sides gray shear shear-x out) (part : Together shear from to run) (in-rows : y < sides .h) where
+  -- the row's part that they take
+  pub part-within : (to ≤ sides .pw) × ((entry shear-x y + to ≤ sides .w) × (y * sides .w + sides .w ≤ length out))
+  part-within =
       let long = ready .sheared .columns .long in
       let most = ready .sheared .rows .most y in-rows in
       let last = row-within (sides .w) (sides .h) in-rows in
-      (omega (arith, run .within), (omega (arith, run .within, ready .sheared .page-wide), omega (arith, ready .out-long)))
+      (omega (arith, part .within), (omega (arith, part .within, ready .sheared .page-wide), omega (arith, ready .out-long)))
 
-  pub run-settled : (at s n : ℕ) (ys : List ℕ) → at ≡ entry shear-x y → s ≡ y * sides .w + at + from → n ≡ to - from → Painted (columnShows sides gray down) from y (take n (drop s out)) ys → LevelledArea sides gray shear shear-x (Columns shear-x from to) y (y + 1) out (put s n ys out)
-  run-settled at s n ys is-at is-s is-n painted =
+  -- what is lent of the row is as long as they are many
+  pub part-given : (at s n : ℕ) → at ≡ entry shear-x y → s ≡ y * sides .w + at + from → n ≡ to - from
+      → let k = length (take n (drop s out)) in Sheets sides gray shear × ((from + k ≤ sides .pw) × Together shear from (from + k) run)
+  part-given at s n is-at is-s is-n =
+      let room = part-within in
+      let long : length (take n (drop s out)) ≡ n = length-take-le n (drop s out) (omega (arith, length-drop s out, part .more, room .1 .0, room .1 .1)) in
+      let end : from + length (take n (drop s out)) ≡ to = omega (arith, part .more) in
+      let r = ready .sheared in (
+        record {
+          wide = omega (arith, r .page-wide, r .wide);
+          high = omega (arith, r .page-high, r .high);
+          grey-long = ready .grey-long;
+          columns = r .columns .long;
+          whole = r .columns .whole;
+        },
+        (omega (arith, room .0), rw end part),
+      )
+
+  pub part-settled : (at s n : ℕ) (ys : List ℕ) → at ≡ entry shear-x y → s ≡ y * sides .w + at + from → n ≡ to - from → Painted (pageShows sides gray shear) from y (take n (drop s out)) ys → LevelledArea sides gray shear shear-x (Columns shear-x from to) y (y + 1) out (put s n ys out)
+  part-settled at s n ys is-at is-s is-n painted =
       let w = sides .w in
       let f = placeShows sides gray shear shear-x in
       let a = at + from in
-      let room = run-within in
+      let room = part-within in
       let whole : s ≡ y * w + a = omega arith in
-      let long : length (take n (drop s out)) ≡ n = length-take-le n (drop s out) (omega (arith, length-drop s out, run .more, room .1 .0, room .1 .1)) in
+      let long : length (take n (drop s out)) ≡ n = length-take-le n (drop s out) (omega (arith, length-drop s out, part .more, room .1 .0, room .1 .1)) in
       let shows : (k : ℕ) → k < n → getD ys k 0 ≡ f (a + k) y = λ k m.
-      painted .shows k (omega arith) ∙ ap (λ (d : ℕ). columnShows sides gray d (from + k) y) (is-down ∙ sym (run .same (from + k) (omega arith) (omega (arith, run .more)))) ∙ sym (place-on sides gray shear shear-x (a + k) y (from + k) (omega arith) (omega (arith, run .more, room .0))) in
-      let written = part-holds w f y a n out ys (painted .long ∙ long) (omega (arith, run .more, room .1 .0)) (omega (arith, run .more, room .1 .0, room .1 .1)) shows in
-      rw whole (holds-in written (λ x z l h. let same : z ≡ y = omega (arith, h .0 .0, h .0 .1) in (same, (omega (arith, ap (entry shear-x) same, h .1 .0), omega (arith, ap (entry shear-x) same, h .1 .1, run .more)))))
+      painted .shows k (omega arith) ∙ sym (place-on sides gray shear shear-x (a + k) y (from + k) (omega arith) (omega (arith, part .more, room .0))) in
+      let written = part-holds w f y a n out ys (painted .long ∙ long) (omega (arith, part .more, room .1 .0)) (omega (arith, part .more, room .1 .0, room .1 .1)) shows in
+      rw whole (holds-in written (λ x z l h. let same : z ≡ y = omega (arith, h .0 .0, h .0 .1) in (same, (omega (arith, ap (entry shear-x) same, h .1 .0), omega (arith, ap (entry shear-x) same, h .1 .1, part .more)))))
 
 -- ---- white paper
 

@@ -22,12 +22,16 @@ levelColumn shear shear-x X Y = X + entry shear-x (levelRow shear X Y)
 unfoldable pub columnShows : Sides → List ℕ → ℕ → ℕ → ℕ → ℕ
 columnShows sides gray s X y = cond (leb s y && ltb (y - s) (sides .ph)) (getD gray ((y - s) * sides .pw + X) 0) 255
 
+-- The same of page column X, moved down by its own shear.
+abbrev pub pageShows : Sides → List ℕ → List ℤ → ℕ → ℕ → ℕ
+pageShows sides gray shear X y = columnShows sides gray (entry shear X) X y
+
 -- What levelled place (x, y) shows: the page column that its row's shift puts there, and 255 beside the page.
 unfoldable pub placeShows : Sides → List ℕ → List ℤ → List ℤ → ℕ → ℕ → ℕ
 unfolding columnShows
 placeShows sides gray shear shear-x x y =
     let X = x - entry shear-x y in
-    cond (leb (entry shear-x y) x && ltb X (sides .pw)) (columnShows sides gray (entry shear X) X y) 255
+    cond (leb (entry shear-x y) x && ltb X (sides .pw)) (pageShows sides gray shear X y) 255
 
 -- The levelled raster, row by row. `Levelling` below is document 01's sentence; it holds of this raster (`levelled-is`) and of no other (`levelling-unique`).
 abbrev pub levelled : Sides → List ℕ → List ℤ → List ℤ → List ℕ

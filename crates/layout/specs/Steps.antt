@@ -1,6 +1,7 @@
 -- What the steps of `level_gray` promise each other. Each writes only what is right, so what is right stays right.
 use Prim.Native.Nat.{ℕ, _-_, _≤_, _<_, _+_, _*_}
 use mathlib.Core.Path.{_≡_}
+use mathlib.Core.Bool.{Bool, true}
 use mathlib.Core.List.{List}
 use lib.IntN.{ℤ, pos}
 use lib.ListN.{length, getD}
@@ -34,10 +35,24 @@ pub record Run (table : List ℤ) (from to : ℕ) : Type 0 where
   pub within : to ≤ length table
   pub same : (i : ℕ) → from ≤ i → i < to → entry table i ≡ entry table from
 
+-- The columns from `from` up to `to` are levelled together; where they are a run, they have one entry.
+pub record Together (table : List ℤ) (from to : ℕ) (run : Bool) : Type 0 where
+  pub more : from < to
+  pub within : to ≤ length table
+  pub same : run ≡ true → (i : ℕ) → from ≤ i → i < to → entry table i ≡ entry table from
+
 -- A part of row y that begins at column `from` shows f.
 pub record Painted (f : ℕ → ℕ → ℕ) (from y : ℕ) (out out′ : List ℕ) : Type 0 where
   pub long : length out′ ≡ length out
   pub shows : (k : ℕ) → k < length out → getD out′ k 0 ≡ f (from + k) y
+
+-- A page of at most 8,192 square, and a table of its columns.
+pub record Sheets (sides : Sides) (gray : List ℕ) (shear : List ℤ) : Type 0 where
+  pub wide : sides .pw ≤ 8192
+  pub high : sides .ph ≤ 8192
+  pub grey-long : length gray ≡ sides .pw * sides .ph
+  pub columns : length shear ≡ sides .pw
+  pub whole : NotBelow shear
 
 -- What the margins' steps are given: rows of at most 8,192 columns whose shifts keep the page inside, and a raster that fits them.
 pub record Framed (sides : Sides) (shear-x : List ℤ) (out : List ℕ) : Type 0 where

@@ -1,13 +1,15 @@
 // Levelling. The page goes into the levelled raster by bands of rows; in a band, by runs of columns
-// that share a shear, since a run of a levelled row is a run of a page row.
+// that share a shear, since a run of a levelled row is a run of a page row; and where runs are too
+// short for that, pixel by pixel.
 ghost use mathlib.Core.Path.{_≡_};
 ghost use Prim.Native.Nat.{_+_, _*_, _≤_, _<_};
 ghost use lib.ListN.{length};
-ghost use Rattle.layout.specs.Steps.{Run, Painted, Framed, Ready, Whitened, LevelledArea, InRows, Outside, Columns, Margins, All};
-ghost use Rattle.layout.specs.Level.{columnShows, levelled};
+ghost use Rattle.layout.specs.Steps.{Together, Painted, Sheets, Framed, Ready, Whitened, LevelledArea, InRows, Outside, Columns, Margins, All};
+ghost use Rattle.layout.specs.Level.{columnShows, pageShows, levelled};
 use crate::raster;
 use crate::sides::Sides;
 use crate::tables;
+use crate::tables::Part;
 
 // Page columns from column `from` on, moved down by `shear`, as levelled row y shows them.
 fn level_run(sides: Sides, gray: &[u8], out: &mut [u8], from: usize, shear: usize, y: usize)
@@ -26,7 +28,54 @@ fn level_run(sides: Sides, gray: &[u8], out: &mut [u8], from: usize, shear: usiz
     raster::copy(out, &gray[start..end])
 }
 
-// The columns of one run, in row y.
+// Page column x, moved down by `down`, as levelled row y shows it.
+fn level_pixel(sides: Sides, gray: &[u8], x: usize, down: usize, y: usize) -> u8
+    requires { ⌜ (sides .pw ≤ 8192) × ((sides .ph ≤ 8192) × ((length (now gray) ≡ sides .pw * sides .ph) × (x < sides .pw))) ⌝ }
+    ensures { λ r. ⌜ r ≡ columnShows sides (now (gray .entry)) down x y ⌝ }
+{
+    if y < down {
+        return 255;
+    }
+    let row = y - down;
+    if sides.ph <= row {
+        return 255;
+    }
+    gray[row * sides.pw + x]
+}
+
+// Page columns from column `from` on, each moved down by its own shear, as levelled row y shows them.
+fn level_pixels(sides: Sides, gray: &[u8], shear: &[i32], out: &mut [u8], from: usize, y: usize)
+    requires { ⌜ Sheets sides (now gray) (now shear) × (from + length (now out) ≤ sides .pw) ⌝ }
+    ensures { λ _. ⌜ Painted (pageShows sides (now (gray .entry)) (now (shear .entry))) from y (now (out .entry)) (now (out .exit)) ⌝ }
+{
+    let mut k = 0;
+    while k < out.len() {
+        let x = from + k;
+        out[k] = level_pixel(sides, gray, x, tables::entry_at(shear, x), y);
+        k += 1;
+    }
+}
+
+// Page columns that are levelled together, as levelled row y shows them.
+fn level_together(
+    sides: Sides,
+    gray: &[u8],
+    shear: &[i32],
+    out: &mut [u8],
+    from: usize,
+    run: bool,
+    y: usize,
+)
+    requires { ⌜ Sheets sides (now gray) (now shear) × ((from + length (now out) ≤ sides .pw) × Together (now shear) from (from + length (now out)) run) ⌝ }
+    ensures { λ _. ⌜ Painted (pageShows sides (now (gray .entry)) (now (shear .entry))) from y (now (out .entry)) (now (out .exit)) ⌝ }
+{
+    if run {
+        return level_run(sides, gray, out, from, tables::entry_at(shear, from), y);
+    }
+    level_pixels(sides, gray, shear, out, from, y)
+}
+
+// The columns of one part, in row y.
 fn level_part(
     sides: Sides,
     gray: &[u8],
@@ -34,19 +83,26 @@ fn level_part(
     shear_x: &[i32],
     out: &mut [u8],
     from: usize,
-    to: usize,
+    part: Part,
     y: usize,
 )
-    requires { ⌜ Ready sides (now gray) (now shear) (now «shear_x») (now out) × (Run (now shear) from to × (y < sides .h)) ⌝ }
-    ensures { λ _. ⌜ LevelledArea sides (now (gray .entry)) (now (shear .entry)) (now («shear_x» .entry)) (Columns (now («shear_x» .entry)) from to) y
+    requires { ⌜ Ready sides (now gray) (now shear) (now «shear_x») (now out) × (Together (now shear) from (part .to) (part .run) × (y < sides .h)) ⌝ }
+    ensures { λ _. ⌜ LevelledArea sides (now (gray .entry)) (now (shear .entry)) (now («shear_x» .entry)) (Columns (now («shear_x» .entry)) from (part .to)) y
         (y + 1) (now (out .entry)) (now (out .exit)) ⌝ }
 {
-    let down = tables::entry_at(shear, from);
     let page = y * sides.w + tables::entry_at(shear_x, y);
-    level_run(sides, gray, &mut out[page + from..page + to], from, down, y)
+    level_together(
+        sides,
+        gray,
+        shear,
+        &mut out[page + from..page + part.to],
+        from,
+        part.run,
+        y,
+    )
 }
 
-// The columns of one run, in the rows from y0 up to y1.
+// The columns of one part, in the rows from y0 up to y1.
 fn level_columns(
     sides: Sides,
     gray: &[u8],
@@ -54,17 +110,17 @@ fn level_columns(
     shear_x: &[i32],
     out: &mut [u8],
     from: usize,
-    to: usize,
+    part: Part,
     y0: usize,
     y1: usize,
 )
-    requires { ⌜ Ready sides (now gray) (now shear) (now «shear_x») (now out) × (Run (now shear) from to × (y1 ≤ sides .h)) ⌝ }
-    ensures { λ _. ⌜ LevelledArea sides (now (gray .entry)) (now (shear .entry)) (now («shear_x» .entry)) (Columns (now («shear_x» .entry)) from to) y0 y1
+    requires { ⌜ Ready sides (now gray) (now shear) (now «shear_x») (now out) × (Together (now shear) from (part .to) (part .run) × (y1 ≤ sides .h)) ⌝ }
+    ensures { λ _. ⌜ LevelledArea sides (now (gray .entry)) (now (shear .entry)) (now («shear_x» .entry)) (Columns (now («shear_x» .entry)) from (part .to)) y0 y1
         (now (out .entry)) (now (out .exit)) ⌝ }
 {
     let mut y = y0;
     while y < y1 {
-        level_part(sides, gray, shear, shear_x, out, from, to, y);
+        level_part(sides, gray, shear, shear_x, out, from, part, y);
         y += 1;
     }
 }
@@ -108,9 +164,9 @@ fn level_rows(
     pad_rows(sides, shear_x, out, y0, y1);
     let mut x = 0;
     while x < shear.len() {
-        let to = tables::run_end(shear, x);
-        level_columns(sides, gray, shear, shear_x, out, x, to, y0, y1);
-        x = to;
+        let part = tables::part_at(shear, x);
+        level_columns(sides, gray, shear, shear_x, out, x, part, y0, y1);
+        x = part.to;
     }
 }
 

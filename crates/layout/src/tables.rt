@@ -3,7 +3,7 @@ ghost use mathlib.Core.Path.{_≡_};
 ghost use Prim.Native.Nat.{_≤_, _<_};
 ghost use lib.ListN.{length};
 ghost use Rattle.layout.specs.Tables.{entry, entriesFit, entryFits, shearsLong, shearsFit};
-ghost use Rattle.layout.specs.Steps.{NotBelow, Run};
+ghost use Rattle.layout.specs.Steps.{NotBelow, Run, Together};
 use crate::sides::Sides;
 
 // An entry that is not below 0.
@@ -53,6 +53,33 @@ pub fn run_end(table: &[i32], from: usize) -> usize
         i += 1;
     }
     i
+}
+
+// Columns that are levelled together: where they end, and whether they are a run.
+pub struct Part {
+    pub to: usize,
+    pub run: bool,
+}
+
+// What is levelled together from column `from` on: a run of at least four columns, or else the next 64, each by itself.
+pub fn part_at(table: &[i32], from: usize) -> Part
+    requires { ⌜ (from < length (now table)) × NotBelow (now table) ⌝ }
+    ensures { λ r. ⌜ Together (now (table .entry)) from (r .to) (r .run) ⌝ }
+{
+    let to = run_end(table, from);
+    if 4 <= to - from {
+        return Part { to, run: true };
+    }
+    if table.len() - from <= 64 {
+        return Part {
+            to: table.len(),
+            run: false,
+        };
+    }
+    Part {
+        to: from + 64,
+        run: false,
+    }
 }
 
 // Question 3 of the tables.

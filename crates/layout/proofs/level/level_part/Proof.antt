@@ -1,83 +1,84 @@
--- `layout::level::level_part` meets its contract: the part of the row that the run takes shows the run.
+-- `layout::level::level_part` meets its contract: the part of the row that the columns take shows them.
 use mathlib.Core.Path.{refl}
 use Prim.Native.Nat.{_+_, _-_, _*_, _≤_, _<_}
 use native.Mathlib.Omega.{arith}
 use lib.ListN.{length}
-use Rattle.layout.specs.Tables.{entry}
 use Rattle.layout.proofs.Places.{small-product}
-use Rattle.layout.proofs.Settle.{run-within, run-settled}
+use Rattle.layout.proofs.Settle.{part-within, part-given, part-settled}
 use borrow.Author.Needs.{needs}
 use Rattle.layout.proofs.level.level_part.Statement.{statement}
 use Rattle.layout.proofs.level.level_part.Tie as tie
 
-entry-at-requires : tie.Need-entry-at-requires
-entry-at-requires c κs = search needs
+mul-page : tie.Need-mul-page
+mul-page c =
+    let start = c .before .before .before in
+    let small = small-product {a = start .args .y} {b = start .args .sides .w} (omega (arith, start .pre .1 .1, start .pre .0 .sheared .high)) (start .pre .0 .sheared .wide) in
+    omega (arith, small)
 
-abbrev start-of : tie.After-entry-at2 → tie.Start
-start-of c = c .before .before .before .before .before
+entry-at-requires : tie.Need-entry-at-requires
+entry-at-requires c κs =
+    let pre = c .before .before .before .pre in
+    (omega (arith, pre .1 .1, pre .0 .sheared .rows .long), pre .0 .sheared .rows .whole)
+
+abbrev start-of : tie.After-entry-at → tie.Start
+start-of c = c .before .before .before .before
 
 -- the part lies in its row, and the row in the raster
-room : (c : tie.After-entry-at2) → let a = start-of c .args in (a .from < a .to) × ((c .entry-at2 .result + a .to ≤ a .sides .w) × ((a .y * a .sides .w + a .sides .w ≤ length (a .out .now)) × (length (a .out .now) ≤ 67108864)))
+room : (c : tie.After-entry-at) → let a = start-of c .args in (a .from < a .part .to) × ((c .entry-at .result + a .part .to ≤ a .sides .w) × ((a .y * a .sides .w + a .sides .w ≤ length (a .out .now)) × (length (a .out .now) ≤ 67108864)))
 room c =
     let a = start-of c .args in
     let pre = start-of c .pre in
     let ready = pre .0 in
-    let in-row = run-within (a .sides) (a .gray .now) (a .shear .now) (a .shear-x .now) (a .out .now) (a .from) (a .to) (a .y) (entry (a .shear .now) (a .from)) ready (pre .1 .0) (pre .1 .1) refl in
-    (pre .1 .0 .more, (omega (arith, in-row .1 .0, c .entry-at2 .ensures), (in-row .1 .1, omega (arith, ready .out-long, small-product (ready .sheared .wide) (ready .sheared .high)))))
-
-mul-page : tie.Need-mul-page
-mul-page c =
-    let start = c .before .before .before .before in
-    let small = small-product {a = start .args .y} {b = start .args .sides .w} (omega (arith, start .pre .1 .1, start .pre .0 .sheared .high)) (start .pre .0 .sheared .wide) in
-    omega (arith, small)
-
-entry-at-requires-2 : tie.Need-entry-at-requires-2
-entry-at-requires-2 c κs = search needs
+    let in-row = part-within (a .sides) (a .gray .now) (a .shear .now) (a .shear-x .now) (a .out .now) (a .from) (a .part .to) (a .y) ready (pre .1 .0) (pre .1 .1) in
+    (pre .1 .0 .more, (omega (arith, in-row .1 .0, c .entry-at .ensures), (in-row .1 .1, omega (arith, ready .out-long, small-product (ready .sheared .wide) (ready .sheared .high)))))
 
 add-page : tie.Need-add-page
 add-page c = omega (arith, room c)
 
-add-level-run : tie.Need-add-level-run
-add-level-run c = omega (arith, room c)
+add-level-together : tie.Need-add-level-together
+add-level-together c = omega (arith, room c)
 
-add-level-run-2 : tie.Need-add-level-run-2
-add-level-run-2 c = omega (arith, room c)
+add-level-together-2 : tie.Need-add-level-together-2
+add-level-together-2 c = omega (arith, room (c .before))
 
-sub-level-run : tie.Need-sub-level-run
-sub-level-run c = search needs
+sub-level-together : tie.Need-sub-level-together
+sub-level-together c = omega (arith, room (c .before))
 
-part-level-run-start : tie.Need-part-level-run-start
-part-level-run-start c = search needs
+part-level-together-start : tie.Need-part-level-together-start
+part-level-together-start c = omega (arith, room (c .before))
 
-part-level-run-end : tie.Need-part-level-run-end
-part-level-run-end c = omega (arith, room c)
+part-level-together-end : tie.Need-part-level-together-end
+part-level-together-end c = omega (arith, room (c .before))
 
-level-run-requires : tie.Need-level-run-requires
-level-run-requires c κs = search needs
+level-together-requires : tie.Need-level-together-requires
+level-together-requires c κs =
+    let e = c .before .before in
+    let a = start-of e .args in
+    let pre = start-of e .pre in
+    part-given (a .sides) (a .gray .now) (a .shear .now) (a .shear-x .now) (a .out .now) (a .from) (a .part .to) (a .y) (pre .0) (pre .1 .0) (pre .1 .1) (e .entry-at .result) (a .y * a .sides .w + e .entry-at .result + a .from) (a .y * a .sides .w + e .entry-at .result + a .part .to - (a .y * a .sides .w + e .entry-at .result + a .from)) (e .entry-at .ensures) refl (omega arith)
 
 same-length : tie.Need-same-length
 same-length c = search needs
 
 returns : tie.Need-returns
 returns c =
-    let e = c .before .before .before .before in
+    let e = c .before .before .before .before .before in
     let a = start-of e .args in
     let pre = start-of e .pre in
-    run-settled (a .sides) (a .gray .now) (a .shear .now) (a .shear-x .now) (a .out .now) (a .from) (a .to) (a .y) (e .before .before .entry-at .result) (pre .0) (pre .1 .0) (pre .1 .1) (e .before .before .entry-at .ensures) (e .entry-at2 .result) (a .y * a .sides .w + e .entry-at2 .result + a .from) (a .y * a .sides .w + e .entry-at2 .result + a .to - (a .y * a .sides .w + e .entry-at2 .result + a .from)) _ (e .entry-at2 .ensures) refl (omega arith) (c .before .before .level-run .ensures)
+    part-settled (a .sides) (a .gray .now) (a .shear .now) (a .shear-x .now) (a .out .now) (a .from) (a .part .to) (a .y) (pre .0) (pre .1 .0) (pre .1 .1) (e .entry-at .result) (a .y * a .sides .w + e .entry-at .result + a .from) (a .y * a .sides .w + e .entry-at .result + a .part .to - (a .y * a .sides .w + e .entry-at .result + a .from)) _ (e .entry-at .ensures) refl (omega arith) (c .before .before .level-together .ensures)
 
 pub level-part-spec : {M : Type 1} → statement M
 level-part-spec =
     tie.close
     (tie.spec
-    entry-at-requires
     mul-page
-    entry-at-requires-2
+    entry-at-requires
     add-page
-    add-level-run
-    add-level-run-2
-    sub-level-run
-    part-level-run-start
-    part-level-run-end
-    level-run-requires
+    add-level-together
+    add-level-together-2
+    sub-level-together
+    part-level-together-start
+    part-level-together-end
+    level-together-requires
     same-length
     returns)
