@@ -4,6 +4,7 @@ pub mod Bands
 pub mod Halves
 pub mod Tests
 pub mod EveryBox
+pub mod Narrow
 pub mod Listing
 pub mod Accepted
 pub mod Call

@@ -2,6 +2,9 @@
 use mathlib.Core.Path.{_≡_, refl, sym, ap, ap₂, subst, _∙_}
 use mathlib.Core.List.{List, _++_, map}
 use Prim.Native.Nat.{ℕ, _+_, _*_, _≤_, _<_, zero-le}
+use native.Mathlib.Nat.{le-refl}
+use native.Mathlib.Numerals.{add-one}
+use native.Mathlib.Decide.{le-ind}
 use native.Mathlib.Omega.{arith}
 use lib.Ieee.{Float}
 use lib.ListN.{length, set, length-append, length-map}
@@ -112,6 +115,15 @@ module _ (mask : List ℕ) (w : ℕ) (glyphs : List ℕ) (l : Limits) where
               run-written (coveragesOf ys) (coveragesOf xs) cs₀ (F .coverages) (F .number ∙ sym (length-map xs (λ b. b .«edge_coverage»)))
               (omega (arith, few, length-map ys (λ b. b .«edge_coverage»), R .coverages)) (S .coverages) (ap coveragesOf next ∙ map-append (λ b. b .«edge_coverage») xs ys);
         }
+
+  -- glyph boxes that are passed over
+  pub skip : {rs₀ ms₀ rs ms : List ℕ} {cs₀ cs : List Float} {n k : ℕ} → Ready mask w glyphs l rs₀ ms₀ cs₀ → Finding rs₀ ms₀ cs₀ rs ms cs n k → (r : ℕ) → k ≤ r
+      → r ≤ count glyphs → ((j : ℕ) → k ≤ j → j < r → PassedOver ≡ foundOf (inkAt w mask) l (rectAt glyphs j)) → Finding rs₀ ms₀ cs₀ rs ms cs n r
+  skip {rs₀} {ms₀} {rs} {ms} {cs₀} {cs} {n} {k} R F r h u passed =
+      le-ind (λ (m : ℕ). m ≤ r → Finding rs₀ ms₀ cs₀ rs ms cs n m) (λ v. F)
+      (λ m a ih v.
+      subst (λ (x : ℕ). Finding rs₀ ms₀ cs₀ rs ms cs n x) (add-one m) (turn R (ih (omega arith)) (omega arith) refl (passed m a (omega arith)) (stored-none refl))) r h
+      (le-refl r)
 
   pub done : {rs₀ ms₀ rs ms : List ℕ} {cs₀ cs : List Float} {n k : ℕ} → Ready mask w glyphs l rs₀ ms₀ cs₀ → Finding rs₀ ms₀ cs₀ rs ms cs n k → count glyphs ≤ k
       → Made mask w glyphs l rs₀ ms₀ cs₀ rs ms cs n

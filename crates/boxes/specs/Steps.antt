@@ -8,7 +8,7 @@ use lib.Ieee.{Float}
 use lib.ListN.{length}
 use lib.Seq.{sets}
 use Rattle.lists.specs.Lists.{written}
-use Rattle.rects.specs.Rects.{count, rectAt}
+use Rattle.rects.specs.Rects.{count, rectAt, widthOf}
 use Rattle.rects.specs.Steps.{AllInside}
 use Rattle.rects.specs.declared.Rect.{Rect}
 use Rattle.ink.specs.Ink.{Ink, inkAt}
@@ -76,6 +76,16 @@ pub record Ready (mask : List ℕ) (w : ℕ) (glyphs : List ℕ) (l : Limits) (r
   pub rects : 4 * count glyphs ≤ length rs
   pub marks : count glyphs ≤ length ms
   pub coverages : count glyphs ≤ length cs
+
+-- The width of each glyph box fits 32 bits.
+abbrev pub Widths : List ℕ → Type 0
+Widths glyphs = (k : ℕ) → k < count glyphs → (rectAt glyphs k .x0 ≤ rectAt glyphs k .x1) × (rectAt glyphs k .x1 < 8192)
+
+-- r is the first place at or past another whose glyph box is at least so wide, and the number of glyph boxes where there is none.
+pub record NextWide (glyphs : List ℕ) (least from r : ℕ) : Type 0 where
+  pub later : from ≤ r
+  pub up-to : r ≤ count glyphs
+  pub narrow : (k : ℕ) → from ≤ k → k < r → widthOf (rectAt glyphs k) < least
 
 -- What the core leaves: the boxes, no more of them than glyph boxes, each inside the picture that the glyph boxes are inside, and below 8,192.
 pub record Made (mask : List ℕ) (w : ℕ) (glyphs : List ℕ) (l : Limits) (rs ms : List ℕ) (cs : List Float)

@@ -3,7 +3,8 @@ ghost use mathlib.Core.Path.{_≡_};
 ghost use Prim.Native.Nat.{_+_, _*_, _≤_, _<_};
 ghost use lib.ListN.{length};
 ghost use lib.Seq.{sets};
-ghost use Rattle.boxes.specs.Steps.{RoomAt, Stored, Ready, Made};
+ghost use Rattle.rects.specs.Rects.{count};
+ghost use Rattle.boxes.specs.Steps.{RoomAt, Stored, Widths, NextWide, Ready, Made};
 use crate::found::Found;
 use crate::limits::Limits;
 use rects::Rect;
@@ -31,6 +32,23 @@ fn store(
     }
 }
 
+// The first glyph box at or past `from` that is at least so wide, and their number where there is none. A narrower one is
+// passed over by its first test, and no more of it is read.
+fn next_wide(glyphs: &[u32], least: u64, from: usize) -> usize
+    requires { ⌜ Widths (now glyphs) × (from ≤ count (now glyphs)) ⌝ }
+    ensures { λ r. ⌜ NextWide (now (glyphs .entry)) least from r ⌝ }
+{
+    let n = glyphs.len() / 4;
+    let mut k = from;
+    while k < n {
+        if least <= rects::rect_at(glyphs, k).width() as u64 {
+            return k;
+        }
+        k += 1;
+    }
+    n
+}
+
 // The boxes of a page that passed its questions, and how many there are.
 pub fn find(
     mask: &[u8],
@@ -46,12 +64,13 @@ pub fn find(
         (now (rects .exit)) (now (marks .exit)) (now (coverages .exit)) n ⌝ }
 {
     let count = glyphs.len() / 4;
+    let least = crate::sizes::whole_part(l.min_size);
     let mut n = 0;
-    let mut k = 0;
+    let mut k = next_wide(glyphs, least, 0);
     while k < count {
         let found = crate::found::test_glyph(mask, w, rects::rect_at(glyphs, k), l);
         n = store(rects, marks, coverages, n, found);
-        k += 1;
+        k = next_wide(glyphs, least, k + 1);
     }
     n
 }
