@@ -4,6 +4,7 @@ pub mod Chains
 pub mod Represents
 pub mod Joins
 pub mod Pairs
+pub mod Sweeps
 pub mod Ascending
 pub mod Classes
 pub mod Grown

@@ -101,6 +101,19 @@ pub record Seen (R : ℕ → ℕ → Type 0) (i j a b : ℕ) : Type 0 where
   pub order : a < b
   pub before : (a < i) ⊎ ((a ≡ i) × (b < j))
 
+-- Some pairs are joined: those of S are, and two that are joined hang together by R. Once S reaches as far as R does, the rule R is joined.
+pub record Between (n : ℕ) (D : ℕ → Type 0) (S R : ℕ → ℕ → Type 0) (p : List ℕ) : Type 0 where
+  pub parents : Parents n p
+  pub inside : (i : ℕ) → D i → i < n
+  pub stays : (i : ℕ) → D i → D (root p i)
+  pub sound : (i j : ℕ) → D i → D j → root p i ≡ root p j → Chain D R i j
+  pub done : (i j : ℕ) → D i → D j → S i j → root p i ≡ root p j
+
+-- The pairs of S, and those of T of which the first stands before the second in an order, and both before the places k, l.
+pub data Swept (S T : ℕ → ℕ → Type 0) (order : List ℕ) (k l : ℕ) : ℕ → ℕ → Type 0 where
+  known : {i j : ℕ} → S i j → Swept S T order k l i j
+  tried : {i j a b : ℕ} → Touching T i j → getD order a 0 ≡ i → getD order b 0 ≡ j → a < b → (a < k) ⊎ ((a ≡ k) × (b < l)) → Swept S T order k l i j
+
 -- What stands in a list at a place.
 abbrev pub entry : List ℕ → ℕ → ℕ
 entry p i = getD p i 0
