@@ -17,7 +17,7 @@ use Rattle.params.specs.Limits.{acrossLimit, gapLimit, alignLimit}
 use Rattle.params.proofs.Limits as Params
 use Rattle.ink.specs.Ink.{inkAt}
 use Rattle.segments.proofs.Demand as Segments
-use Rattle.segments.proofs.Rectangles.{all-wider}
+use Rattle.ruling_lists.proofs.Rectangles.{all-wider}
 use Rattle.tables.proofs.Demand as Tables
 use Rattle.boxes.specs.Limits.{boxLimitsOf}
 use Rattle.boxes.proofs.EveryBox.{every-box}

@@ -9,8 +9,8 @@ use Rattle.layout.specs.Level.{levelled}
 use Rattle.params.specs.declared.settings.RulingsParams.{RulingsParams}
 use Rattle.params.specs.declared.settings.FusionParams.{FusionParams}
 use Rattle.segments.specs.Call as Segments
-use Rattle.segments.specs.Rulings.{rulingRects, directionsOf, contrastsOf}
-use Rattle.segments.specs.Printed.{printedPlaces, faintPlaces}
+use Rattle.ruling_lists.specs.Rulings.{rulingRects, directionsOf, contrastsOf}
+use Rattle.printed_rulings.specs.Printed.{printedPlaces, faintPlaces}
 use Rattle.shapes.specs.declared.limits.Limits.{Limits}
 use Rattle.shapes.specs.Limits.{tableLimitsOf}
 use Rattle.tables.specs.Call as Tables

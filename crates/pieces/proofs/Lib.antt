@@ -1,2 +1,4 @@
 -- Why pieces are joined rightly: laws that belong to no one function.
 pub mod Touching
+pub mod Arranged
+pub mod Rows

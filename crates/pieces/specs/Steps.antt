@@ -1,9 +1,14 @@
 -- What the functions of `pieces` say to each other.
-use Prim.Native.Nat.{ℕ, _+_, _≤_, _<_}
+use Prim.Native.Nat.{ℕ, _+_, _^_, _≤_, _<_}
+use mathlib.Core.Path.{_≡_}
 use mathlib.Core.Bool.{Bool, cond}
 use mathlib.Core.List.{List}
+use lib.ListN.{length, getD}
+use Rattle.sets.specs.Closed.{Below}
+use Rattle.sets.specs.Steps.{Between, Swept}
 use Rattle.rects.specs.declared.Rect.{Rect}
 use Rattle.rects.specs.Rects.{count, rectAt}
+use Rattle.pieces.specs.Pieces.{horizontal, Touch}
 
 -- The ends of a rectangle are in order.
 pub record Ordered (r : Rect) : Type 0 where
@@ -23,3 +28,45 @@ startIn h r = cond h (r .x0) (r .y0)
 
 abbrev pub endIn : Bool → Rect → ℕ
 endIn h r = cond h (r .x1) (r .y1)
+
+-- What is added to the places of a direction, so that all vertical pieces stand behind the horizontal ones.
+abbrev pub offsetIn : Bool → ℕ
+offsetIn h = cond h 0 (2 ^ 34)
+
+-- Where a piece stands in the sweep.
+abbrev pub sweepKey : Rect → ℕ
+sweepKey r = startIn (horizontal r) r + offsetIn (horizontal r)
+
+-- The last key of those that a piece of the given direction may reach.
+abbrev pub lastKey : ℕ → Bool → Rect → ℕ
+lastKey gap h r = endIn h r + (gap + 1) + offsetIn h
+
+-- The key of a piece, of which the start fits 32 bits.
+pub record KeyOf (r : Rect) (k : ℕ) : Type 0 where
+  pub value : k ≡ sweepKey r
+  pub small : startIn (horizontal r) r < 2 ^ 32
+
+-- Each piece has its key in a list.
+abbrev pub Keyed : List ℕ → List ℕ → Type 0
+Keyed pieces keys = (i : ℕ) → i < count pieces → KeyOf (rectAt pieces i) (getD keys i 0)
+
+-- The lists to sort in have room for the indexes below n, and these and their count fit 32 bits.
+pub record SweepRoom (n : ℕ) (os ws ks : List ℕ) : Type 0 where
+  pub small : n < 2 ^ 32
+  pub order : n ≤ length os
+  pub work : n ≤ length ws
+  pub keys : n ≤ length ks
+
+-- A list begins with the indexes of all pieces, in the order of their keys.
+pub record Sweep (pieces order keys : List ℕ) : Type 0 where
+  pub order-room : count pieces ≤ length order
+  pub keys-room : count pieces ≤ length keys
+  pub keyed : Keyed pieces keys
+  pub known : (k : ℕ) → k < count pieces → getD order k 0 < count pieces
+  pub stands : (i : ℕ) → i < count pieces → (k : ℕ) × (k < count pieces) × (getD order k 0 ≡ i)
+  pub ascends : (k l : ℕ) → k < l → l < count pieces → getD keys (getD order k 0) 0 ≤ getD keys (getD order l 0) 0
+
+-- The pairs of the order before the places k, l were tried: those that touch are joined, and what is joined hangs together by touching.
+abbrev pub SweptTo : List ℕ → ℕ → ℕ → List ℕ → ℕ → ℕ → List ℕ → Type 0
+SweptTo pieces across gap order k l p =
+    Between (count pieces) (Below (count pieces)) (Swept (λ i j. ⊥) (Touch pieces across gap) order k l) (Touch pieces across gap) p

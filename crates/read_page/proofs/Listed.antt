@@ -9,7 +9,7 @@ use Rattle.lists.proofs.Keep.{getD-of}
 use Rattle.lists.proofs.Written.{written-at}
 use Rattle.sets.specs.Listing.{ReadAs}
 use Rattle.segments.specs.Call.{AllNear}
-use Rattle.segments.specs.Rulings.{rulingOf}
+use Rattle.ruling_lists.specs.Rulings.{rulingOf}
 use Rattle.page.specs.Page as Page
 use Rattle.page.specs.Page.{Page}
 use Rattle.page.specs.Lent.{RuleLists}

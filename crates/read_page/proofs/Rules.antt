@@ -14,7 +14,7 @@ use Rattle.layout.specs.Steps as Layout
 use Rattle.layout.proofs.Levelling.{levelled-is}
 use Rattle.params.specs.Steps.{SettingsPassed}
 use Rattle.segments.specs.Steps as Segments
-use Rattle.segments.specs.Steps.{SplitByContrast}
+use Rattle.printed_rulings.specs.Steps.{SplitByContrast, RoomForPlaces}
 use Rattle.meeting.specs.Steps as Meeting
 use Rattle.tables.specs.Steps as Tables
 use Rattle.stages.specs.Steps.{PartsLong}
@@ -103,7 +103,7 @@ module _ (g : Page) (K : Known g) (l : RuleLists) (Q : RuleRoom (g .sides .w) (g
     pub directions-still : length d ≡ length (l .directions)
     directions-still = still (Page.directions g) (l .directions) (R .directions) (let e = Ruled.directions-long g (K .few-pieces) (K .sides .w-most) (K .sides .h-most) (K .pieces) in omega (arith, few, Q .directions))
 
-    pub split-ready : (n ≤ length c) × Segments.RoomForPlaces (take n c) (l .printed) (l .faint)
+    pub split-ready : (n ≤ length c) × RoomForPlaces (take n c) (l .printed) (l .faint)
     split-ready = (
       omega (arith, n-few, contrasts-still, Q .contrasts),
       (let e : length (take n c) ≡ n = ap length contrasts-front ∙ Ruled.contrasts-long g (K .few-pieces) (K .sides .w-most) (K .sides .h-most) (K .pieces) ∙ sym (R .count) in

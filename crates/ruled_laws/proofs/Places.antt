@@ -10,7 +10,7 @@ use Rattle.lists.specs.Lists.{below, keep}
 use Rattle.lists.proofs.Keep.{length-below, below-in, kept-in, at-in}
 use Rattle.lists.proofs.Sizes.{keep-size-le}
 use Rattle.rects.specs.Steps.{AllInside}
-use Rattle.segments.proofs.Rectangles.{all-wider}
+use Rattle.ruling_lists.proofs.Rectangles.{all-wider}
 use Rattle.meeting.specs.Steps as Meeting
 use Rattle.findings.specs.Steps.{AllGiven}
 

@@ -16,11 +16,11 @@ use Rattle.rects.specs.Steps.{AllInside}
 use Rattle.rects.specs.Around.{around}
 use Rattle.params.specs.Limits.{acrossLimit, gapLimit}
 use Rattle.pieces.specs.Pieces.{touch}
-use Rattle.segments.specs.Rulings.{rulingOf, directionOf, directionNumber}
-use Rattle.segments.specs.Printed as Printed
+use Rattle.ruling_lists.specs.Rulings.{rulingOf, directionOf, directionNumber}
+use Rattle.printed_rulings.specs.Printed as Printed
 use Rattle.segments.proofs.Demand as Demand
-use Rattle.segments.proofs.Rectangles.{set-inside}
-use Rattle.segments.proofs.PrintedFaint.{printed-and-faint}
+use Rattle.ruling_lists.proofs.Rectangles.{set-inside}
+use Rattle.printed_rulings.proofs.PrintedFaint.{printed-and-faint}
 use Rattle.meeting.specs.Steps as Meeting
 use Rattle.tables.proofs.Few as Few
 use Rattle.findings.specs.Made.{freePlaces, freeCount, foldInches, folds}

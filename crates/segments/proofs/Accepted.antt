@@ -16,7 +16,8 @@ use Rattle.params.specs.Scan.{xheightQuestions}
 use Rattle.params.specs.Settings.{settingsQuestions}
 use Rattle.params.specs.Steps.{SettingsPassed}
 use Rattle.segments.specs.Call.{Given, Lent, hasRoom, questions}
-use Rattle.segments.specs.Steps.{inputQuestions, answersFit, workFits, WorkRoom, Ready}
+use Rattle.ruling_questions.specs.Steps.{inputQuestions, answersFit, workFits}
+use Rattle.segments.specs.Steps.{WorkRoom, Ready}
 
 -- ---- question 14
 

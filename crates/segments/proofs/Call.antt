@@ -11,12 +11,12 @@ use Rattle.lists.proofs.Written.{written-at}
 use Rattle.params.specs.Limits.{acrossLimit, gapLimit}
 use Rattle.params.proofs.Limits.{limits}
 use Rattle.questions.specs.Questions.{firstMissed}
-use Rattle.segments.specs.Rulings.{orderedSets, rulingOf, contrastsOf}
+use Rattle.ruling_lists.specs.Rulings.{orderedSets, rulingOf, contrastsOf}
 use Rattle.segments.specs.Call.{Given, Lent, questions, allSets, accepted, refusal, Segments}
 use Rattle.segments.specs.Steps.{Ready, Made}
 use Rattle.segments.proofs.Accepted.{settled}
 use Rattle.segments.proofs.Demand.{demand, in-order}
-use Rattle.segments.proofs.Rectangles.{all-wider}
+use Rattle.ruling_lists.proofs.Rectangles.{all-wider}
 
 module _ (g : Given) (l : Lent) {q : ℕ} (asked : q ≡ firstMissed (questions g l)) where
   pub passed : (l′ : Lent) {across gap r : ℕ} → q ≡ 0

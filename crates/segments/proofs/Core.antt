@@ -13,9 +13,10 @@ use Rattle.sets.specs.Closed.{Below, Listed}
 use Rattle.sets.specs.Listing.{membersOf, endsFrom, ReadAs}
 use Rattle.sets.proofs.Listings.{read-as}
 use Rattle.pieces.specs.Pieces.{Touch}
-use Rattle.segments.specs.Rulings.{pieceSets, rulingKeys, orderedSets}
-use Rattle.segments.specs.Steps.{Parts, partsOf, inOrder, Strung, RoomForSets, Described, RoomForRulings, SetsListed, SetsOrdered, Made}
-use Rattle.segments.proofs.Parts.{parts-are, part-is, order-is}
+use Rattle.ruling_lists.specs.Rulings.{pieceSets, rulingKeys, orderedSets}
+use Rattle.ruling_lists.specs.Steps.{Parts, partsOf, inOrder, Strung, RoomForSets, Described, RoomForRulings, SetsListed, SetsOrdered}
+use Rattle.segments.specs.Steps.{Made}
+use Rattle.ruling_lists.proofs.Parts.{parts-are, part-is, order-is}
 use Rattle.segments.proofs.Demand.{pieces-listed, rulings-listed, rulings-long, rulings-size, keys-long}
 
 pub still : {r n a b : ℕ} → r ≤ n → n ≤ a → b ≡ a → r ≤ b

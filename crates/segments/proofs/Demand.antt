@@ -23,7 +23,7 @@ use Rattle.rects.specs.Steps.{AllInside, Inside}
 use Rattle.rects.specs.Around.{around}
 use Rattle.rects.proofs.Around.{around-smallest, around-inside}
 use Rattle.pieces.specs.Pieces.{horizontal, touch, Touch}
-use Rattle.segments.specs.Rulings.{pieceSets, rulingKey, rulingKeys, orderedSets, directionOf, directionNumber, StandsBefore}
+use Rattle.ruling_lists.specs.Rulings.{pieceSets, rulingKey, rulingKeys, orderedSets, directionOf, directionNumber, StandsBefore}
 use Rattle.segments.specs.Call.{Demand3, InOrder}
 use Rattle.pieces.proofs.Touching.{touching-agrees}
 use Rattle.segments.proofs.Order.{key-orders, key-tells, size-sorted}

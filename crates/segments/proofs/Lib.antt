@@ -1,10 +1,6 @@
 -- Why the rulings are right: laws that belong to no one function.
 pub mod Accepted
-pub mod Runs
-pub mod Parts
-pub mod Rectangles
 pub mod Order
 pub mod Demand
 pub mod Core
 pub mod Call
-pub mod PrintedFaint

@@ -14,7 +14,7 @@ use Rattle.order.specs.Order.{place, sortedBy}
 use Rattle.rects.specs.declared.Rect.{Rect}
 use Rattle.rects.proofs.Questions.{Inside}
 use Rattle.sets.proofs.Sizes.{concat-one}
-use Rattle.segments.specs.Rulings.{rulingKey, Earlier}
+use Rattle.ruling_lists.specs.Rulings.{rulingKey, Earlier}
 
 -- ---- the key
 

@@ -2,7 +2,7 @@
 use Prim.Native.Nat.{ℕ, _*_, _<_}
 use mathlib.Core.Path.{_≡_}
 use mathlib.Core.Bool.{Bool, cond, _&&_}
-use mathlib.Core.List.{List, [], _∷_, _++_}
+use mathlib.Core.List.{List, []}
 use lib.Dec.{leb, eqb}
 use lib.Ieee.{Float, nan}
 use lib.ListN.{length, getD}
@@ -10,16 +10,14 @@ use Rattle.lists.specs.Lists.{In, concat, written}
 use Rattle.sets.specs.Closed.{Below, Listed}
 use Rattle.sets.specs.Listing.{endsFrom, ReadAs}
 use Rattle.questions.specs.Questions.{Question, firstMissed}
-use Rattle.rects.specs.Rects.{count, rectAt, countFits, allInside}
+use Rattle.rects.specs.Rects.{count, rectAt}
 use Rattle.rects.specs.Around.{Smallest, around}
-use Rattle.layout.specs.Sides.{levelledSidesFit}
 use Rattle.params.specs.declared.settings.RulingsParams.{RulingsParams}
-use Rattle.params.specs.Scan.{xheightInRange}
-use Rattle.params.specs.Settings.{settingsQuestions}
 use Rattle.params.specs.Limits.{IsLimit, acrossLimit, gapLimit}
 use Rattle.pieces.specs.Pieces.{horizontal, Touch}
+use Rattle.ruling_questions.specs.Questions.{rulingQuestions}
 use Rattle.segments.specs.declared.segments.Answer.{Answer}
-use Rattle.segments.specs.Rulings.{orderedSets, directionOf, Near, rulingRects, directionsOf, contrastsOf, StandsBefore}
+use Rattle.ruling_lists.specs.Rulings.{orderedSets, directionOf, Near, rulingRects, directionsOf, contrastsOf, StandsBefore}
 
 -- What the call is given: the levelled raster and its sides, the x-height, the settings and the rule pieces.
 pub record Given : Type 0 where
@@ -54,14 +52,7 @@ hasRoom g l =
 
 -- The questions that it puts, in document 01's order.
 abbrev pub questions : Given → Lent → List Question
-questions g l =
-    (1, levelledSidesFit (g .w) (g .h))
-    ∷ (2, xheightInRange (g .xheight))
-    ∷ (5, countFits 4096 (g .pieces))
-    ∷ (6, allInside (g .w) (g .h) (g .pieces))
-    ∷ settingsQuestions (g .settings)
-    ++ (14, hasRoom g l)
-    ∷ []
+questions g l = rulingQuestions (g .w) (g .h) (g .xheight) (g .pieces) (g .settings) (hasRoom g l)
 
 -- The sets of pieces in the order of their rulings, with the limits that the settings and the x-height give.
 abbrev pub setsOf : Float → List ℕ → RulingsParams → List (List ℕ)

@@ -1,5 +1,5 @@
 // The call: pieces to rulings.
-ghost use Rattle.segments.specs.Rulings.{orderedSets};
+ghost use Rattle.ruling_lists.specs.Rulings.{orderedSets};
 ghost use Rattle.segments.specs.Call.{Segments};
 ghost use Rattle.segments.specs.Steps.{Ready, Made};
 use params::settings::RulingsParams;
@@ -37,7 +37,7 @@ pub fn rulings(
         (now (rects .entry)) (now (directions .entry)) (now (contrasts .entry)) (now (members .entry)) (now (ends .entry))
         (now (rects .exit)) (now (directions .exit)) (now (contrasts .exit)) (now (members .exit)) (now (ends .exit)) r ⌝ }
 {
-    let count = crate::sets_of_pieces::list_sets(
+    let count = ruling_lists::sets_of_pieces::list_sets(
         pieces,
         across,
         gap,
@@ -45,10 +45,19 @@ pub fn rulings(
         listed,
         listed_ends,
         work,
+        keys,
     );
-    crate::sets_of_pieces::order_sets(pieces, listed, listed_ends, count, parents, work, keys);
-    crate::write::write_sets(parents, count, listed, listed_ends, members, ends);
-    crate::write::write_rulings(
+    ruling_lists::sets_of_pieces::order_sets(
+        pieces,
+        listed,
+        listed_ends,
+        count,
+        parents,
+        work,
+        keys,
+    );
+    ruling_lists::write::write_sets(parents, count, listed, listed_ends, members, ends);
+    ruling_lists::write::write_rulings(
         raster,
         w,
         h,
@@ -115,7 +124,7 @@ pub fn segments(
           keys = now (keys .exit);
         }) r ⌝ }
 {
-    let number = crate::guard::missed(
+    let number = ruling_questions::guard::missed(
         w,
         h,
         xheight,

@@ -183,3 +183,44 @@ sweep-end {n} {D} {S} {T} {order = order} {p} {k} {l} B h stands = between-known
       where
         same : (a b : ℕ) → (a < b → ⊥) → (b < a → ⊥) → a ≡ b
         same a b o f = omega arith
+
+-- the same end of a row where each index stands among the first n places: what is past those says nothing
+pub sweep-row-in : {n : ℕ} {D : ℕ → Type 0} {S T R : ℕ → ℕ → Type 0} {order p : List ℕ} {k l : ℕ} → Between n D (Swept S T order k l) R p → Stands n D order
+    → ((b : ℕ) → k < b → l ≤ b → b < n → Touching T (getD order k 0) (getD order b 0) → ⊥) → Between n D (Swept S T order (k + 1) (k + 2)) R p
+sweep-row-in {n} {D} {S} {T} {order = order} {p} {k} {l} B stands rest = between-known B (λ i j di dj s. back i j di dj s)
+  where
+    Split : ℕ → ℕ → Type 0
+    Split i j = Swept S T order k l i j ⊎ Same p i j
+
+    turned : {i j : ℕ} → Touching T i j → Touching T j i
+    turned (inl t) = inr t
+    turned (inr t) = inl t
+
+    -- the second stands before the first, is the first, or stands behind it
+    in-row : (i j : ℕ) → D i → D j → Touching T i j → getD order k 0 ≡ i → (b : ℕ) → b < n → getD order b 0 ≡ j → Split i j
+    in-row i j di dj t ei b lb ej =
+        elim (decLt k b) [
+          | yes o ↦
+              elim (decLt b l) [
+                | yes h ↦ inl (tried t ei ej o (inr (refl, h)))
+                | no h ↦ absurd (rest b o (omega arith) lb (rw (sym ei, sym ej) at t))
+              ]
+          | no o ↦
+              elim (decLt b k) [
+                | yes h ↦ inr (sym (B .done j i dj di (tried (turned t) ej ei h (inl h))))
+                | no h ↦ inr (ap (root p) (sym ei ∙ ap (λ (x : ℕ). getD order x 0) (same o h) ∙ ej))
+              ]
+        ]
+      where
+        same : (k < b → ⊥) → (b < k → ⊥) → k ≡ b
+        same o h = omega arith
+
+    back : (i j : ℕ) → D i → D j → Swept S T order (k + 1) (k + 2) i j → Split i j
+    back i j di dj (known s) = inl (known s)
+    back i j di dj (tried {a = a} {b = b} t ea eb o (inl h)) =
+        let y = stands j dj in
+        elim (ℕ-discrete a k) [
+          | yes e ↦ in-row i j di dj t (rw e at ea) (y .0) (y .1) (y .2)
+          | no e ↦ inl (tried t ea eb o (inl (omega arith)))
+        ]
+    back i j di dj (tried {a = a} {b = b} t ea eb o (inr h)) = absurd (let x = h .0 in let y = h .1 in omega arith)

@@ -7,8 +7,9 @@ use lib.Ieee.{Float}
 use lib.ListN.{length, take}
 use Rattle.rects.specs.Rects.{count}
 use Rattle.params.specs.declared.settings.RulingsParams.{RulingsParams}
-use Rattle.segments.specs.Rulings.{orderedSets}
-use Rattle.segments.specs.Steps.{Made, SplitByContrast}
+use Rattle.ruling_lists.specs.Rulings.{orderedSets}
+use Rattle.segments.specs.Steps.{Made}
+use Rattle.printed_rulings.specs.Steps.{SplitByContrast}
 use Rattle.shapes.specs.declared.limits.Limits.{Limits}
 use Rattle.tables.specs.Steps.{Lists, Filled, Roomy}
 use Rattle.boxes.specs.declared.limits.Limits as BoxLimits

@@ -3,12 +3,13 @@ ghost use Prim.Native.Nat.{_≤_};
 ghost use lib.ListN.{length, take};
 ghost use Rattle.params.specs.Steps.{SettingsPassed};
 ghost use Rattle.segments.specs.Call.{setsOf};
-ghost use Rattle.segments.specs.Steps.{SplitByContrast, Ready, Made, RoomForPlaces};
+ghost use Rattle.segments.specs.Steps.{Ready, Made};
+ghost use Rattle.printed_rulings.specs.Steps.{SplitByContrast, RoomForPlaces};
 ghost use Rattle.page.specs.Lent.{listAt};
 ghost use Rattle.stages.specs.Steps.{Only, Kept};
 use layout::sides::Sides;
 use params::settings::RulingsParams;
-use segments::printed::Parted;
+use printed_rulings::Parted;
 
 pub fn rulings_in(
     sides: Sides,
@@ -77,7 +78,7 @@ fn split_of(
     ensures { λ r. ⌜ SplitByContrast p (take n (now (contrasts .entry))) (now (printed .entry)) (now (faint .entry)) (now (printed .exit))
         (now (faint .exit)) (r .printed) (r .faint) ⌝ }
 {
-    segments::printed::split(p, &contrasts[..n], printed, faint)
+    printed_rulings::split(p, &contrasts[..n], printed, faint)
 }
 
 // The printed and the faint of the first n rulings.

@@ -1,53 +1,53 @@
 -- `segments::rulings` meets its contract: the sets are listed, ordered, strung together in that order, and described.
-use mathlib.Core.Path.{_≡_, refl, sym, ap, _∙_}
+use mathlib.Core.Path.{_≡_, sym, ap, _∙_}
 use Prim.Native.Nat.{ℕ, _≤_, _<_}
 use native.Mathlib.Omega.{arith}
 use borrow.Author.Needs.{needs}
 use lib.ListN.{length}
 use Rattle.rects.specs.Rects.{count}
-use Rattle.segments.specs.Rulings.{pieceSets}
-use Rattle.segments.specs.Steps.{SetsListed}
-use Rattle.segments.proofs.Rectangles.{all-ordered, all-wider}
+use Rattle.ruling_lists.specs.Rulings.{pieceSets}
+use Rattle.ruling_lists.specs.Steps.{SetsListed}
+use Rattle.ruling_lists.proofs.Rectangles.{all-ordered, all-wider}
 use Rattle.segments.proofs.Core.{still, few-sets, small-count, listed-parts, sets-room, sets-strung, strung-parts, rulings-room, made}
 use Rattle.segments.proofs.segments.rulings.Statement.{statement}
 use Rattle.segments.proofs.segments.rulings.Tie as tie
 
 list-sets-requires : tie.Need-list-sets-requires
 list-sets-requires c κs =
-    let start = c .before .before .before .before .before .before .before .before .before .before .before .before .before .before .before .before in
+    let start = c .before .before .before .before .before .before .before .before .before .before .before .before .before .before .before .before .before in
     let R = start .pre in
-    (all-ordered (start .args .pieces .now) (R .picture .inside), record { room = R .work .parents; small = omega (arith, R .few) }, R .work .listed, R .work .listed-ends, R .work .work)
+    (all-ordered (start .args .pieces .now) (R .picture .inside), record { room = R .work .parents; small = omega (arith, R .few) }, R .work .listed, R .work .listed-ends, R .work .work, R .work .keys)
 
 order-sets-requires : tie.Need-order-sets-requires
 order-sets-requires c κs =
-    let start = c .before .before .before .before .before .before .before .before .before .before .before .before .before .before .before .before .before .before .before .before .before .before .before .before .before .before .before .before .before .before in
+    let start = c .before .before .before .before .before .before .before .before .before .before .before .before .before .before .before .before .before .before .before .before .before .before .before .before .before .before .before .before .before .before .before .before .before in
     let R = start .pre in
     let a = start .args in
-    let L = c .before .before .before .before .before .before .before .before .before .before .before .before .before .list-sets .ensures in (
+    let L = c .before .before .before .before .before .before .before .before .before .before .before .before .before .before .before .list-sets .ensures in (
       all-wider (a .pieces .now) (R .picture .narrow) (R .picture .low) (R .picture .inside),
       listed-parts (a .pieces .now) (a .across) (a .gap) L (R .work .listed) (R .work .listed-ends),
       small-count (a .pieces .now) (a .across) (a .gap) L (R .few),
-      still (few-sets (a .pieces .now) (a .across) (a .gap) L) (R .work .parents) (c .before .before .before .before .before .before .before .before .before .before .before .before .before .list-sets .kept .1 .1 .1 .0),
-      still (few-sets (a .pieces .now) (a .across) (a .gap) L) (R .work .work) (c .before .before .before .before .before .before .before .before .before .before .before .before .before .list-sets .kept .1 .1 .1 .1 .1 .1 .0),
-      still (few-sets (a .pieces .now) (a .across) (a .gap) L) (R .work .keys) refl,
+      still (few-sets (a .pieces .now) (a .across) (a .gap) L) (R .work .parents) (c .before .before .before .before .before .before .before .before .before .before .before .before .before .before .before .list-sets .kept .1 .1 .1 .0),
+      still (few-sets (a .pieces .now) (a .across) (a .gap) L) (R .work .work) (c .before .before .before .before .before .before .before .before .before .before .before .before .before .before .before .list-sets .kept .1 .1 .1 .1 .1 .1 .0),
+      still (few-sets (a .pieces .now) (a .across) (a .gap) L) (R .work .keys) (c .before .before .before .before .before .before .before .before .before .before .before .before .before .before .before .list-sets .kept .1 .1 .1 .1 .1 .1 .1 .0),
     )
 
 write-sets-requires : tie.Need-write-sets-requires
 write-sets-requires c κs =
-    let start = c .before .before .before .before .before .before .before .before .before .before .before .before .before .before .before .before .before .before .before .before .before .before .before .before .before .before .before .before .before .before .before .before .before .before .before .before .before .before .before .before .before .before in
+    let start = c .before .before .before .before .before .before .before .before .before .before .before .before .before .before .before .before .before .before .before .before .before .before .before .before .before .before .before .before .before .before .before .before .before .before .before .before .before .before .before .before .before .before .before .before .before in
     let R = start .pre in
     let a = start .args in
-    let L = c .before .before .before .before .before .before .before .before .before .before .before .before .before .before .before .before .before .before .before .before .before .before .before .before .before .list-sets .ensures in (
-      still (few-sets (a .pieces .now) (a .across) (a .gap) L) (R .work .parents) (c .before .before .before .before .before .before .before .before .before .before .before .order-sets .kept .1 .1 .1 .1 .0 ∙ c .before .before .before .before .before .before .before .before .before .before .before .before .before .before .before .before .before .before .before .before .before .before .before .before .before .list-sets .kept .1 .1 .1 .0),
+    let L = c .before .before .before .before .before .before .before .before .before .before .before .before .before .before .before .before .before .before .before .before .before .before .before .before .before .before .before .list-sets .ensures in (
+      still (few-sets (a .pieces .now) (a .across) (a .gap) L) (R .work .parents) (c .before .before .before .before .before .before .before .before .before .before .before .order-sets .kept .1 .1 .1 .1 .0 ∙ c .before .before .before .before .before .before .before .before .before .before .before .before .before .before .before .before .before .before .before .before .before .before .before .before .before .before .before .list-sets .kept .1 .1 .1 .0),
       sets-room (a .pieces .now) (a .across) (a .gap) L (R .work .listed) (R .work .listed-ends) (c .before .before .before .before .before .before .before .before .before .before .before .order-sets .ensures) (R .few) (R .members) (R .ends),
     )
 
 write-rulings-requires : tie.Need-write-rulings-requires
 write-rulings-requires c κs =
-    let start = c .before .before .before .before .before .before .before .before .before .before .before .before .before .before .before .before .before .before .before .before .before .before .before .before .before .before .before .before .before .before .before .before .before .before .before .before .before .before .before .before .before .before .before .before .before .before .before .before .before .before .before .before in
+    let start = c .before .before .before .before .before .before .before .before .before .before .before .before .before .before .before .before .before .before .before .before .before .before .before .before .before .before .before .before .before .before .before .before .before .before .before .before .before .before .before .before .before .before .before .before .before .before .before .before .before .before .before .before .before .before .before in
     let R = start .pre in
     let a = start .args in
-    let L = c .before .before .before .before .before .before .before .before .before .before .before .before .before .before .before .before .before .before .before .before .before .before .before .before .before .before .before .before .before .before .before .before .before .before .before .list-sets .ensures in
+    let L = c .before .before .before .before .before .before .before .before .before .before .before .before .before .before .before .before .before .before .before .before .before .before .before .before .before .before .before .before .before .before .before .before .before .before .before .before .before .list-sets .ensures in
     let S = sets-strung (a .pieces .now) (a .across) (a .gap) L (R .work .listed) (R .work .listed-ends) (c .before .before .before .before .before .before .before .before .before .before .before .before .before .before .before .before .before .before .before .before .before .order-sets .ensures) (c .before .before .before .before .before .before .before .before .before .write-sets .ensures) in (
       R .picture,
       strung-parts (a .pieces .now) (a .across) (a .gap) L S (R .members) (R .ends),
@@ -70,26 +70,26 @@ same-length-5 : tie.Need-same-length-5
 same-length-5 c = c .before .before .before .before .before .before .before .before .before .before .before .before .before .before .before .before .write-sets .kept .1 .1 .1 .1 .1 .0
 
 same-length-6 : tie.Need-same-length-6
-same-length-6 c = c .before .before .before .before .before .before .before .before .before .before .before .before .before .before .before .before .before .before .before .before .before .before .before .before .before .before .before .before .order-sets .kept .1 .1 .1 .1 .0 ∙ c .before .before .before .before .before .before .before .before .before .before .before .before .before .before .before .before .before .before .before .before .before .before .before .before .before .before .before .before .before .before .before .before .before .before .before .before .before .before .before .before .before .before .list-sets .kept .1 .1 .1 .0
+same-length-6 c = c .before .before .before .before .before .before .before .before .before .before .before .before .before .before .before .before .before .before .before .before .before .before .before .before .before .before .before .before .order-sets .kept .1 .1 .1 .1 .0 ∙ c .before .before .before .before .before .before .before .before .before .before .before .before .before .before .before .before .before .before .before .before .before .before .before .before .before .before .before .before .before .before .before .before .before .before .before .before .before .before .before .before .before .before .before .before .list-sets .kept .1 .1 .1 .0
 
 same-length-7 : tie.Need-same-length-7
-same-length-7 c = c .before .before .before .before .before .before .before .before .before .before .before .before .before .before .before .before .before .before .before .before .before .before .before .before .before .before .before .before .before .before .before .before .before .before .before .before .before .before .before .before .before .before .list-sets .kept .1 .1 .1 .1 .0
+same-length-7 c = c .before .before .before .before .before .before .before .before .before .before .before .before .before .before .before .before .before .before .before .before .before .before .before .before .before .before .before .before .before .before .before .before .before .before .before .before .before .before .before .before .before .before .before .before .list-sets .kept .1 .1 .1 .1 .0
 
 same-length-8 : tie.Need-same-length-8
-same-length-8 c = c .before .before .before .before .before .before .before .before .before .before .before .before .before .before .before .before .before .before .before .before .before .before .before .before .before .before .before .before .before .before .before .before .before .before .before .before .before .before .before .before .before .before .list-sets .kept .1 .1 .1 .1 .1 .0
+same-length-8 c = c .before .before .before .before .before .before .before .before .before .before .before .before .before .before .before .before .before .before .before .before .before .before .before .before .before .before .before .before .before .before .before .before .before .before .before .before .before .before .before .before .before .before .before .before .list-sets .kept .1 .1 .1 .1 .1 .0
 
 same-length-9 : tie.Need-same-length-9
-same-length-9 c = c .before .before .before .before .before .before .before .before .before .before .before .before .before .before .before .before .before .before .before .before .before .before .before .before .before .before .before .before .order-sets .kept .1 .1 .1 .1 .1 .0 ∙ c .before .before .before .before .before .before .before .before .before .before .before .before .before .before .before .before .before .before .before .before .before .before .before .before .before .before .before .before .before .before .before .before .before .before .before .before .before .before .before .before .before .before .list-sets .kept .1 .1 .1 .1 .1 .1 .0
+same-length-9 c = c .before .before .before .before .before .before .before .before .before .before .before .before .before .before .before .before .before .before .before .before .before .before .before .before .before .before .before .before .order-sets .kept .1 .1 .1 .1 .1 .0 ∙ c .before .before .before .before .before .before .before .before .before .before .before .before .before .before .before .before .before .before .before .before .before .before .before .before .before .before .before .before .before .before .before .before .before .before .before .before .before .before .before .before .before .before .before .before .list-sets .kept .1 .1 .1 .1 .1 .1 .0
 
 same-length-10 : tie.Need-same-length-10
-same-length-10 c = c .before .before .before .before .before .before .before .before .before .before .before .before .before .before .before .before .before .before .before .before .before .before .before .before .before .before .before .before .order-sets .kept .1 .1 .1 .1 .1 .1 .0
+same-length-10 c = c .before .before .before .before .before .before .before .before .before .before .before .before .before .before .before .before .before .before .before .before .before .before .before .before .before .before .before .before .order-sets .kept .1 .1 .1 .1 .1 .1 .0 ∙ c .before .before .before .before .before .before .before .before .before .before .before .before .before .before .before .before .before .before .before .before .before .before .before .before .before .before .before .before .before .before .before .before .before .before .before .before .before .before .before .before .before .before .before .before .list-sets .kept .1 .1 .1 .1 .1 .1 .1 .0
 
 returns : tie.Need-returns
 returns c =
-    let start = c .before .before .before .before .before .before .before .before .before .before .before .before .before .before .before .before .before .before .before .before .before .before .before .before .before .before .before .before .before .before .before .before .before .before .before .before .before .before .before .before .before .before .before .before .before .before .before .before .before .before .before .before .before .before .before .before .before .before .before in
+    let start = c .before .before .before .before .before .before .before .before .before .before .before .before .before .before .before .before .before .before .before .before .before .before .before .before .before .before .before .before .before .before .before .before .before .before .before .before .before .before .before .before .before .before .before .before .before .before .before .before .before .before .before .before .before .before .before .before .before .before .before .before .before .before in
     let R = start .pre in
     let a = start .args in
-    let L = c .before .before .before .before .before .before .before .before .before .before .before .before .before .before .before .before .before .before .before .before .before .before .before .before .before .before .before .before .before .before .before .before .before .before .before .before .before .before .before .before .before .before .list-sets .ensures in
+    let L = c .before .before .before .before .before .before .before .before .before .before .before .before .before .before .before .before .before .before .before .before .before .before .before .before .before .before .before .before .before .before .before .before .before .before .before .before .before .before .before .before .before .before .before .before .list-sets .ensures in
     let S = sets-strung (a .pieces .now) (a .across) (a .gap) L (R .work .listed) (R .work .listed-ends) (c .before .before .before .before .before .before .before .before .before .before .before .before .before .before .before .before .before .before .before .before .before .before .before .before .before .before .before .before .order-sets .ensures) (c .before .before .before .before .before .before .before .before .before .before .before .before .before .before .before .before .write-sets .ensures) in
     made (a .pieces .now) (a .across) (a .gap) L S (R .members) (R .ends) (c .before .before .before .before .before .before .write-rulings .ensures)
 

@@ -1,0 +1,2 @@
+-- What is known of printed and faint rulings.
+pub mod PrintedFaint

@@ -1,0 +1,2 @@
+// The questions that `segments` puts.
+pub mod guard;
