@@ -23,7 +23,7 @@ use Rattle.params.specs.Settings.{settingsQuestions}
 use Rattle.params.specs.Steps.{SettingsPassed}
 use Rattle.params.proofs.Passed.{settings-passed}
 use Rattle.ink.specs.Steps.{Readable}
-use Rattle.boxes.specs.Limits.{boxLimitsOf}
+use Rattle.glyph_tests.specs.Limits.{boxLimitsOf}
 use Rattle.boxes.specs.Call.{Given, Lent, hasRoom, givenQuestions, questions}
 use Rattle.boxes.specs.Steps.{Ready}
 

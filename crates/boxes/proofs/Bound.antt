@@ -19,9 +19,10 @@ use Rattle.ink.specs.Ink.{Ink}
 use Rattle.ink.specs.Places.{longestRun}
 use Rattle.ink.proofs.Places.{last-is}
 use Rattle.ink.proofs.Runs.{longest-run-is}
-use Rattle.boxes.specs.declared.limits.Limits.{Limits}
-use Rattle.boxes.specs.Tests.{rowOver, columnOver, frameOf, topEdge, bottomEdge, leftEdge, rightEdge, runShare, edgeCoverage}
-use Rattle.boxes.specs.Boxes.{boxIn, trimmed, passedOver, boxOf, chosen, boxesBelow, boxesOf, coveragesOf}
+use Rattle.glyph_tests.specs.declared.limits.Limits.{Limits}
+use Rattle.glyph_tests.specs.Tests.{rowOver, columnOver, frameOf, topEdge, bottomEdge, leftEdge, rightEdge, runShare, edgeCoverage}
+use Rattle.glyph_tests.specs.Glyph.{boxIn, trimmed, passedOver, boxOf}
+use Rattle.boxes.specs.Boxes.{chosen, boxesBelow, boxesOf, coveragesOf}
 
 -- a run along a side is at most the side
 pub run-share-small : (q : ℕ → Bool) (n : ℕ) → 0 < n → n ≤ 8192 → AtMost 1 (runShare q n)

@@ -5,8 +5,8 @@ use Prim.Native.Nat.{ℕ}
 use borrow.Author.Tests.{ne-eqb}
 use Rattle.questions.specs.Questions.{firstMissed}
 use Rattle.ink.specs.Ink.{inkAt}
-use Rattle.boxes.specs.declared.limits.Limits.{Limits}
-use Rattle.boxes.specs.Limits.{boxLimitsOf}
+use Rattle.glyph_tests.specs.declared.limits.Limits.{Limits}
+use Rattle.glyph_tests.specs.Limits.{boxLimitsOf}
 use Rattle.boxes.specs.Call as Call
 use Rattle.boxes.specs.Call.{Given, Lent, questions, refusal, Boxes}
 use Rattle.boxes.specs.Steps.{Made}

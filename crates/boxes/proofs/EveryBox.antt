@@ -19,13 +19,15 @@ use Rattle.rects.specs.Steps.{Inside, AllInside}
 use Rattle.rects.specs.declared.Rect.{Rect}
 use Rattle.rects.proofs.Questions.{has-numbers}
 use Rattle.ink.specs.Ink.{Ink}
-use Rattle.boxes.specs.declared.limits.Limits.{Limits}
-use Rattle.boxes.specs.declared.found.CheckBox.{CheckBox}
-use Rattle.boxes.specs.declared.found.Found.the-variants.{PassedOver, Box}
-use Rattle.boxes.specs.Tests.{sizeMissed, hasFrame}
-use Rattle.boxes.specs.Boxes.{frameMissed, boxIn, trimmed, passedOver, boxOf, chosen, boxesBelow, boxesOf, Ascends, EveryBox, framesOf}
-use Rattle.boxes.specs.Steps.{foundOf, listed}
-use Rattle.boxes.proofs.Frames.{frame-inside}
+use Rattle.glyph_tests.specs.declared.limits.Limits.{Limits}
+use Rattle.glyph_tests.specs.declared.found.CheckBox.{CheckBox}
+use Rattle.glyph_tests.specs.declared.found.Found.the-variants.{PassedOver, Box}
+use Rattle.glyph_tests.specs.Tests.{sizeMissed, hasFrame}
+use Rattle.glyph_tests.specs.Glyph.{frameMissed, boxIn, trimmed, passedOver, boxOf}
+use Rattle.boxes.specs.Boxes.{chosen, boxesBelow, boxesOf, Ascends, EveryBox, framesOf}
+use Rattle.glyph_tests.specs.Steps.{foundOf}
+use Rattle.boxes.specs.Steps.{listed}
+use Rattle.glyph_tests.proofs.Frames.{frame-inside}
 
 -- ---- the places ascend
 

@@ -15,12 +15,13 @@ use Rattle.lists.proofs.Written.{written-run}
 use Rattle.rects.specs.Rects.{count, rectAt, numbersOf}
 use Rattle.rects.specs.declared.Rect.{Rect}
 use Rattle.ink.specs.Ink.{inkAt}
-use Rattle.boxes.specs.declared.limits.Limits.{Limits}
-use Rattle.boxes.specs.declared.found.CheckBox.{CheckBox}
-use Rattle.boxes.specs.declared.found.Found.{Found}
-use Rattle.boxes.specs.declared.found.Found.the-variants.{PassedOver, Box}
+use Rattle.glyph_tests.specs.declared.limits.Limits.{Limits}
+use Rattle.glyph_tests.specs.declared.found.CheckBox.{CheckBox}
+use Rattle.glyph_tests.specs.declared.found.Found.{Found}
+use Rattle.glyph_tests.specs.declared.found.Found.the-variants.{PassedOver, Box}
 use Rattle.boxes.specs.Boxes.{boxesBelow, framesOf, marksOf, coveragesOf}
-use Rattle.boxes.specs.Steps.{foundOf, listed, RoomAt, Stored, Ready, Made}
+use Rattle.glyph_tests.specs.Steps.{foundOf}
+use Rattle.boxes.specs.Steps.{listed, RoomAt, Stored, Ready, Made}
 use Rattle.boxes.proofs.EveryBox.{boxes-next, boxes-none, boxes-few, rectangles-long, boxes-inside}
 
 -- ---- what was found, stored

@@ -15,8 +15,8 @@ use Rattle.params.specs.Scan.{scanQuestions}
 use Rattle.params.specs.Settings.{settingsQuestions}
 use Rattle.ink.specs.Ink.{inkAt}
 use Rattle.boxes.specs.declared.Answer.{Answer}
-use Rattle.boxes.specs.declared.found.CheckBox.{CheckBox}
-use Rattle.boxes.specs.Limits.{boxLimitsOf}
+use Rattle.glyph_tests.specs.declared.found.CheckBox.{CheckBox}
+use Rattle.glyph_tests.specs.Limits.{boxLimitsOf}
 use Rattle.boxes.specs.Boxes.{chosen, boxesOf, EveryBox, framesOf, marksOf, coveragesOf}
 
 -- What the call is given; w and h are the levelled sides.

@@ -1,13 +1,7 @@
 // Hollow squares with four straight edges among the glyph boxes of a page.
 ghost use Rattle.boxes.specs.Call.{Boxes};
 
-mod edges;
-pub mod found;
-mod frame;
 mod guard;
-mod inner;
-pub mod limits;
-mod sizes;
 pub mod write;
 
 use params::settings::RulingsParams;
@@ -48,7 +42,7 @@ pub fn boxes(
     if number != 0 {
         return Answer { number, count: 0 };
     }
-    let l = limits::limits_of(dpi, xheight, p);
+    let l = glyph_tests::limits::limits_of(dpi, xheight, p);
     let count = write::find(ink, w, glyphs, l, rects, marks, coverages);
     Answer { number: 0, count }
 }

@@ -5,8 +5,8 @@ ghost use lib.ListN.{length};
 ghost use lib.Seq.{sets};
 ghost use Rattle.rects.specs.Rects.{count};
 ghost use Rattle.boxes.specs.Steps.{RoomAt, Stored, Widths, NextWide, Ready, Made};
-use crate::found::Found;
-use crate::limits::Limits;
+use glyph_tests::found::Found;
+use glyph_tests::limits::Limits;
 use rects::Rect;
 
 // Stores a box after n others, and returns how many there are.
@@ -64,11 +64,11 @@ pub fn find(
         (now (rects .exit)) (now (marks .exit)) (now (coverages .exit)) n ⌝ }
 {
     let count = glyphs.len() / 4;
-    let least = crate::sizes::whole_part(l.min_size);
+    let least = glyph_tests::sizes::whole_part(l.min_size);
     let mut n = 0;
     let mut k = next_wide(glyphs, least, 0);
     while k < count {
-        let found = crate::found::test_glyph(mask, w, rects::rect_at(glyphs, k), l);
+        let found = glyph_tests::found::test_glyph(mask, w, rects::rect_at(glyphs, k), l);
         n = store(rects, marks, coverages, n, found);
         k = next_wide(glyphs, least, k + 1);
     }

@@ -19,7 +19,7 @@ use Rattle.ink.specs.Ink.{inkAt}
 use Rattle.segments.proofs.Demand as Segments
 use Rattle.ruling_lists.proofs.Rectangles.{all-wider}
 use Rattle.tables.proofs.Demand as Tables
-use Rattle.boxes.specs.Limits.{boxLimitsOf}
+use Rattle.glyph_tests.specs.Limits.{boxLimitsOf}
 use Rattle.boxes.proofs.EveryBox.{every-box}
 use Rattle.grids.proofs.Demand as Grids
 use Rattle.findings.specs.Made.{everyFinite}

@@ -11,7 +11,7 @@ ghost use Rattle.rects.specs.Steps.{AllInside};
 ghost use Rattle.findings.specs.Steps.{gridKey, Mapping, RectsGiven, GridRectsGiven, FirstKeyed};
 ghost use Rattle.findings.specs.Made.{freeCount};
 ghost use Rattle.page.specs.Lent.{listAt};
-ghost use Rattle.stages.specs.Steps.{Only, Kept};
+ghost use Rattle.page.specs.Steps.{Only, Kept};
 ghost use Rattle.finding_stages.specs.Steps.{FirstLong};
 use layout::sides::Sides;
 use params::settings::RulingsParams;

@@ -6,7 +6,7 @@ ghost use Rattle.lists.specs.Lists.{written};
 ghost use Rattle.findings.specs.Made.{freePlaces, folds};
 ghost use Rattle.findings.specs.Steps.{NumbersGiven, PlacesGiven, Front};
 ghost use Rattle.page.specs.Lent.{listAt};
-ghost use Rattle.stages.specs.Steps.{Only, Kept};
+ghost use Rattle.page.specs.Steps.{Only, Kept};
 ghost use Rattle.finding_stages.specs.Steps.{FaintLong};
 use params::settings::RulingsParams;
 

@@ -8,7 +8,7 @@ ghost use Rattle.finding_lists.specs.Steps.{Wrote, RanksGiven};
 ghost use Rattle.findings.specs.Made.{freeCount, tableAt, freeOf, foldAt, gridOf};
 ghost use Rattle.findings.specs.Steps.{Mapping, AllGiven, TablesGiven, GridsGiven};
 ghost use Rattle.page.specs.Lent.{listAt};
-ghost use Rattle.stages.specs.Steps.{Only, Kept};
+ghost use Rattle.page.specs.Steps.{Only, Kept};
 ghost use Rattle.finding_stages.specs.Steps.{TablesLong, RulesLong, BoxesLong};
 use layout::sides::Sides;
 use params::settings::FusionParams;

@@ -1,5 +1,5 @@
 // Levelling (crate `layout`); pw and ph are the page's sides, w and h the levelled picture's.
-ghost use Rattle.layout.specs.Call.{LevelGray};
+ghost use Rattle.levelling.specs.Call.{LevelGray};
 use layout::sides::Sides;
 
 #[no_mangle]
@@ -17,5 +17,5 @@ pub extern "C" fn lanegravel_level_gray(
         (now (out .entry)) (now (out .exit)) r ⌝ }
 {
     let sides = Sides { pw, ph, w, h };
-    layout::calls::level_gray(sides, gray, shear, shear_x, out)
+    levelling::calls::level_gray(sides, gray, shear, shear_x, out)
 }

@@ -1,14 +1,10 @@
 -- The laws that `layout`'s proofs and the crates above it cite.
-pub mod Agree
 pub mod Every
 pub mod Signed
 pub mod Entries
 pub mod Answers
 pub mod Places
-pub mod Parts
 pub mod Shows
-pub mod Paint
-pub mod Settle
 pub mod Back
 pub mod Levelling
 pub mod Guards

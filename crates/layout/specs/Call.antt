@@ -1,11 +1,10 @@
--- What each call answers: the questions that it puts, in document 01's order, and its answer where none is missed.
+-- What `to_page` and `rect_to_page` answer: the questions that they put, in document 01's order, and the answer where none is missed.
 use Prim.Native.Nat.{ℕ}
 use mathlib.Core.Path.{_≡_}
-use mathlib.Core.Bool.{_&&_, cond}
+use mathlib.Core.Bool.{cond}
 use mathlib.Core.List.{List, [], _∷_}
 use lib.Dec.{eqb}
 use lib.IntN.{ℤ}
-use lib.ListN.{length}
 use Rattle.questions.specs.Questions.{Question, firstMissed}
 use Rattle.layout.specs.declared.sides.Sides.{Sides}
 use Rattle.rects.specs.declared.Rect.{Rect}
@@ -14,28 +13,10 @@ use Rattle.layout.specs.declared.calls.Mapped.{Mapped}
 use Rattle.layout.specs.declared.calls.Mapped.the-variants.{Place, Refused}
 use Rattle.layout.specs.declared.calls.MappedRect.{MappedRect}
 use Rattle.layout.specs.declared.calls.MappedRect.the-variants.{Area, RefusedArea}
-use Rattle.layout.specs.Sides.{sidesFit, rasterFits}
+use Rattle.layout.specs.Sides.{sidesFit}
 use Rattle.layout.specs.Tables.{shearsLong, shearsFit}
 use Rattle.rects.specs.Rects.{inside}
-use Rattle.layout.specs.Level.{levelled, Levelling}
 use Rattle.layout.specs.ToPage.{toPage, rectToPage}
-
--- `level_gray` puts 1, 3, 4 and 14; room is the length of the lent raster.
-abbrev pub levelQuestions : Sides → List ℕ → List ℤ → List ℤ → ℕ → List Question
-levelQuestions sides gray shear shear-x room =
-    (1, sidesFit sides)
-    ∷ (3, rasterFits (sides .pw) (sides .ph) (length gray) && shearsLong sides shear shear-x)
-    ∷ (4, shearsFit sides shear shear-x)
-    ∷ (14, rasterFits (sides .w) (sides .h) room)
-    ∷ []
-
--- What a call of `level_gray` promises: the number of the first missed question; a refused call leaves the raster; an accepted one leaves the levelled
--- raster, of which document 01's sentence holds.
-pub record LevelGray (sides : Sides) (gray : List ℕ) (shear shear-x : List ℤ) (out out′ : List ℕ) (q : ℕ) : Type 0 where
-  pub number : q ≡ firstMissed (levelQuestions sides gray shear shear-x (length out))
-  pub refused : (q ≡ 0 → ⊥) → out′ ≡ out
-  pub answers : q ≡ 0 → out′ ≡ levelled sides gray shear shear-x
-  pub levelling : q ≡ 0 → Levelling sides gray shear shear-x out′
 
 -- `to_page` and `rect_to_page` put 1, 3, 4 and 6.
 abbrev pub mapQuestions : Sides → List ℤ → List ℤ → Rect → List Question

@@ -1,2 +1,3 @@
--- Why the guard's number is that of the first missed question.
+-- Why the guard's number is that of the first missed question; lists that are lent from a bundle and given back.
 mod Firsts
+pub mod Bundle

@@ -15,7 +15,7 @@ use Rattle.params.specs.Limits.{IsLimit, acrossLimit, gapLimit, alignSetting, a
 use Rattle.ink.specs.Ink.{inkAt}
 use Rattle.segments.specs.Call as Segments
 use Rattle.tables.specs.Call as Tables
-use Rattle.boxes.specs.Limits.{boxLimitsOf}
+use Rattle.glyph_tests.specs.Limits.{boxLimitsOf}
 use Rattle.boxes.specs.Boxes.{EveryBox}
 use Rattle.boxes.specs.Call.{pagePlaces}
 use Rattle.grids.specs.Reading.{readingOrder}

@@ -14,7 +14,7 @@ use Rattle.printed_rulings.specs.Printed.{printedPlaces, faintPlaces}
 use Rattle.shapes.specs.declared.limits.Limits.{Limits}
 use Rattle.shapes.specs.Limits.{tableLimitsOf}
 use Rattle.tables.specs.Call as Tables
-use Rattle.boxes.specs.declared.found.CheckBox.{CheckBox}
+use Rattle.glyph_tests.specs.declared.found.CheckBox.{CheckBox}
 use Rattle.boxes.specs.Boxes as Boxes
 use Rattle.boxes.specs.Call.{pageBoxes}
 use Rattle.grids.specs.Grids as Grids

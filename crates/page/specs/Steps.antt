@@ -1,9 +1,11 @@
--- What question 14 shows of the lent lists, as plain facts; none of it is needed to read the call's contract.
+-- What question 14 shows of the lent lists, as plain facts, and what is kept of a bundle; none of it is needed to read the call's contract.
 use mathlib.Core.Path.{_≡_}
+use mathlib.Core.List.{List}
 use Prim.Native.Nat.{ℕ, _+_, _*_, _≤_}
+use denote.Ref.{RefT}
 use lib.ListN.{length}
 use Rattle.finding_lists.specs.Steps.{Roomy}
-use Rattle.page.specs.Lent.{RuleLists, MarkLists, Lent}
+use Rattle.page.specs.Lent.{listAt, RuleLists, MarkLists, Lent}
 
 -- The lists have room for n rulings and as many tables.
 pub record RuleRoom (w h n : ℕ) (l : RuleLists) : Type 0 where
@@ -48,3 +50,12 @@ pub record Room (w h n m : ℕ) (l : Lent) : Type 0 where
   pub rules : RuleRoom w h n (l .rules)
   pub marks : MarkRoom m (l .marks)
   pub found : Roomy (n + m) (l .found)
+
+-- Only list k may have changed, and it is as long as it was.
+pub record Only {A : Type 0} (k : ℕ) (bundle bundle′ : List (RefT (List A))) : Type 0 where
+  pub others : (j : ℕ) → (j ≡ k → ⊥) → listAt j bundle′ ≡ listAt j bundle
+  pub long : length (listAt k bundle′) ≡ length (listAt k bundle)
+
+-- Every list is as it was.
+pub record Kept {A : Type 0} (bundle bundle′ : List (RefT (List A))) : Type 0 where
+  pub each : (j : ℕ) → listAt j bundle′ ≡ listAt j bundle

@@ -22,7 +22,7 @@ use Rattle.findings.specs.Steps.{gridKey, Front, FirstKeyed}
 use Rattle.findings.specs.Made.{tableAt, freePlaces, freeOf, freeCount, folds, foldAt, gridOf}
 use Rattle.page.specs.declared.counts.Counts.{Counts}
 use Rattle.page.specs.Lent.{listAt}
-use Rattle.stages.specs.Steps.{Only, Kept}
+use Rattle.page.specs.Steps.{Only, Kept}
 use Rattle.page_findings.specs.Steps.{Sources, Work, Ready, Left}
 use Rattle.page_findings.proofs.Steps.{told-folds, place-front, fold-front, told-first, told-rank, told-grids}
 use Rattle.page_findings.proofs.Writing.{told-tables, told-loose, told-fold, told-grid, all}

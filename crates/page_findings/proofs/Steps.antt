@@ -28,7 +28,7 @@ use Rattle.findings.proofs.Writes as Writes
 use Rattle.findings.proofs.Demand.{findings-paired}
 use Rattle.finding_stages.specs.Steps.{FaintLong, FirstLong, TablesLong, RulesLong, BoxesLong}
 use Rattle.page.specs.declared.counts.Counts.{Counts}
-use Rattle.stages.proofs.Bundle.{cut}
+use Rattle.page.proofs.Bundle.{cut}
 use Rattle.page_findings.specs.Steps.{Sources, Work, Ready, Left, ruled, printed, faint, tabled, free, boxed}
 
 -- four numbers a rectangle

@@ -1,7 +1,7 @@
 // The findings of a page, from what was found on it: places and keys, then ranks, then each kind at its ranks.
 ghost use mathlib.Core.List.{map};
 ghost use Rattle.page.specs.Lent.{listAt};
-ghost use Rattle.stages.specs.Steps.{Kept};
+ghost use Rattle.page.specs.Steps.{Kept};
 ghost use Rattle.page_findings.specs.Steps.{Ready, Left};
 use layout::sides::Sides;
 use page::counts::Counts;

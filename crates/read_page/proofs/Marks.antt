@@ -9,7 +9,7 @@ use Rattle.rects.specs.Rects.{count}
 use Rattle.rects.specs.Steps.{AllInside}
 use Rattle.params.specs.Limits.{alignLimit}
 use Rattle.params.specs.Steps.{SettingsPassed}
-use Rattle.boxes.specs.Limits.{boxLimitsOf}
+use Rattle.glyph_tests.specs.Limits.{boxLimitsOf}
 use Rattle.boxes.specs.Steps as Boxes
 use Rattle.boxes.proofs.Accepted.{ready}
 use Rattle.grids.specs.Call as GridsCall

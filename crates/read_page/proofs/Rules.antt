@@ -10,7 +10,7 @@ use Rattle.lists.specs.Lists.{concat, written}
 use Rattle.lists.proofs.Written.{written-length}
 use Rattle.sets.specs.Listing.{endsFrom, ReadAs}
 use Rattle.rects.specs.Rects.{count}
-use Rattle.layout.specs.Steps as Layout
+use Rattle.levelling.specs.Steps as Levelling
 use Rattle.layout.proofs.Levelling.{levelled-is}
 use Rattle.params.specs.Steps.{SettingsPassed}
 use Rattle.segments.specs.Steps as Segments
@@ -40,7 +40,7 @@ module _ (g : Page) (K : Known g) (l : RuleLists) (Q : RuleRoom (g .sides .w) (g
   abbrev h : ℕ
   h = g .sides .h
 
-  pub level-ready : Layout.Ready (g .sides) (g .gray) (g .shear) (g .shear-x) (l .levelled)
+  pub level-ready : Levelling.Ready (g .sides) (g .gray) (g .shear) (g .shear-x) (l .levelled)
   level-ready = record { sheared = K .sheared; grey-long = K .grey; out-long = Q .levelled }
 
   raster-long : length (Page.raster g) ≡ w * h

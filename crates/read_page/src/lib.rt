@@ -173,7 +173,7 @@ pub fn read(
           keys = listAt 0 (now («box_keys» .exit));
         }) n ⌝ }
 {
-    stages::levelling::level_in(sides, gray, shear, shear_x, levelled);
+    stages::levelled::level_in(sides, gray, shear, shear_x, levelled);
     let count = stages::rulings::rulings_in(
         sides,
         xheight,

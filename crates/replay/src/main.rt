@@ -13,7 +13,7 @@ use stored::words::Word;
 
 mod floats;
 mod glyphs;
-mod levelling;
+mod levelled;
 mod pages;
 mod pieces;
 mod rulings;
@@ -49,7 +49,7 @@ fn answer(text: &[u8], at: usize) -> usize {
         3 => print(floats::rounded_product(text, next)),
         4 => print(floats::round(text, next)),
         5..=9 => pages::page(text, next, number),
-        10..=12 => levelling::page(text, next, number),
+        10..=12 => levelled::page(text, next, number),
         _ => text.len(),
     }
 }

@@ -12,11 +12,11 @@ use Rattle.segments.specs.Steps.{Made}
 use Rattle.printed_rulings.specs.Steps.{SplitByContrast}
 use Rattle.shapes.specs.declared.limits.Limits.{Limits}
 use Rattle.tables.specs.Steps.{Lists, Filled, Roomy}
-use Rattle.boxes.specs.declared.limits.Limits as BoxLimits
+use Rattle.glyph_tests.specs.declared.limits.Limits as BoxLimits
 use Rattle.boxes.specs.Steps as Boxes
 use Rattle.grids.specs.Call.{Lent}
 use Rattle.grids.specs.Steps as Grids
-use Rattle.stages.proofs.Bundle.{cut}
+use Rattle.page.proofs.Bundle.{cut}
 
 pub made-sent : {raster : List ℕ} {w h : ℕ} {pieces : List ℕ} {across across′ gap gap′ : ℕ} {rs ds : List ℕ} {cs : List Float} {ms es rs′ ds′ : List ℕ} {cs′ : List Float} {ms′ es′ rs″ ds″ : List ℕ} {cs″ : List Float} {ms″ es″ : List ℕ} {n : ℕ}
     → across ≡ across′ → gap ≡ gap′ → rs′ ≡ rs″ → ds′ ≡ ds″ → cs′ ≡ cs″ → ms′ ≡ ms″ → es′ ≡ es″

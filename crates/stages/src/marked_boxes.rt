@@ -3,11 +3,11 @@ ghost use Prim.Native.Nat.{_*_, _≤_};
 ghost use lib.ListN.{length, take};
 ghost use Rattle.params.specs.Steps.{SettingsPassed};
 ghost use Rattle.params.specs.Limits.{alignLimit};
-ghost use Rattle.boxes.specs.Limits.{boxLimitsOf};
+ghost use Rattle.glyph_tests.specs.Limits.{boxLimitsOf};
 ghost use Rattle.boxes.specs.Steps as Boxes;
 ghost use Rattle.grids.specs.Steps as Grids;
 ghost use Rattle.page.specs.Lent.{listAt};
-ghost use Rattle.stages.specs.Steps.{Only, Kept};
+ghost use Rattle.page.specs.Steps.{Only, Kept};
 use grids::core::Counts;
 use layout::sides::Sides;
 use params::settings::RulingsParams;
@@ -31,7 +31,7 @@ pub fn boxes_in(
         × Only 1 (now (rects .entry)) (now (rects .exit)) × Only 1 (now (tags .entry)) (now (tags .exit)) × Only 2 (now (values .entry))
         (now (values .exit)) ⌝ }
 {
-    let limits = boxes::limits::limits_of(dpi, xheight, p);
+    let limits = glyph_tests::limits::limits_of(dpi, xheight, p);
     boxes::write::find(ink, sides.w, glyphs, limits, rects[1], tags[1], values[2])
 }
 

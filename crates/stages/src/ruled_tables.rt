@@ -6,7 +6,7 @@ ghost use Rattle.meeting.specs.Steps.{Given};
 ghost use Rattle.shapes.specs.Limits.{tableLimitsOf};
 ghost use Rattle.tables.specs.Steps.{Filled, Roomy};
 ghost use Rattle.page.specs.Lent.{listAt};
-ghost use Rattle.stages.specs.Steps.{Only, Kept};
+ghost use Rattle.page.specs.Steps.{Only, Kept};
 ghost use Rattle.stages.specs.Steps.{PartsLong};
 use params::settings::RulingsParams;
 use tables::core::Counts;

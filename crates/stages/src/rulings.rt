@@ -6,7 +6,7 @@ ghost use Rattle.segments.specs.Call.{setsOf};
 ghost use Rattle.segments.specs.Steps.{Ready, Made};
 ghost use Rattle.printed_rulings.specs.Steps.{SplitByContrast, RoomForPlaces};
 ghost use Rattle.page.specs.Lent.{listAt};
-ghost use Rattle.stages.specs.Steps.{Only, Kept};
+ghost use Rattle.page.specs.Steps.{Only, Kept};
 use layout::sides::Sides;
 use params::settings::RulingsParams;
 use printed_rulings::Parted;

@@ -11,9 +11,9 @@ use Rattle.math.specs.Sum.{whole}
 use Rattle.rects.specs.Rects.{count, rectAt, widthOf}
 use Rattle.rects.proofs.Questions.{has-numbers}
 use Rattle.ink.specs.Ink.{inkAt}
-use Rattle.boxes.specs.declared.limits.Limits.{Limits}
+use Rattle.glyph_tests.specs.declared.limits.Limits.{Limits}
 use Rattle.boxes.specs.Steps.{Widths, NextWide, Ready}
-use Rattle.boxes.proofs.Narrow.{narrow-passed}
+use Rattle.glyph_tests.proofs.Narrow.{narrow-passed}
 use Rattle.boxes.proofs.Listing.{Finding, begun, room, turn, skip, done}
 use Rattle.boxes.proofs.write.find.Statement.{statement}
 use Rattle.boxes.proofs.write.find.Tie as tie

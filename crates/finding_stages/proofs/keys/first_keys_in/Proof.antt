@@ -1,7 +1,7 @@
 -- `keys::first_keys_in` meets its contract.
 use borrow.Author.Needs.{needs}
 use mathlib.Core.Path.{refl}
-use Rattle.stages.proofs.Bundle.{sent, only, kept}
+use Rattle.page.proofs.Bundle.{sent, only, kept}
 use Rattle.finding_stages.proofs.Sent.{first-sent}
 use Rattle.finding_stages.proofs.keys.first_keys_in.Statement.{statement}
 use Rattle.finding_stages.proofs.keys.first_keys_in.Tie as tie

@@ -1,7 +1,7 @@
 -- `keys::rank_in` meets its contract.
 use borrow.Author.Needs.{needs}
 use mathlib.Core.Path.{refl}
-use Rattle.stages.proofs.Bundle.{sent, only, kept}
+use Rattle.page.proofs.Bundle.{sent, only, kept}
 use Rattle.finding_stages.proofs.Sent.{ranked-sent}
 use Rattle.finding_stages.proofs.keys.rank_in.Statement.{statement}
 use Rattle.finding_stages.proofs.keys.rank_in.Tie as tie

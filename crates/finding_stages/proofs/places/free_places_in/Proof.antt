@@ -1,7 +1,7 @@
 -- `places::free_places_in` meets its contract.
 use borrow.Author.Needs.{needs}
 use mathlib.Core.Path.{refl, sym, _∙_}
-use Rattle.stages.proofs.Bundle.{sent, only, kept}
+use Rattle.page.proofs.Bundle.{sent, only, kept}
 use Rattle.finding_stages.proofs.places.free_places_in.Statement.{statement}
 use Rattle.finding_stages.proofs.places.free_places_in.Tie as tie
 

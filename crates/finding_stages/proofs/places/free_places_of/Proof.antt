@@ -1,5 +1,5 @@
 -- `places::free_places_of` meets its contract: the parts that are lent on are as long as they say.
-use Rattle.stages.proofs.Bundle.{cut}
+use Rattle.page.proofs.Bundle.{cut}
 use Rattle.finding_stages.proofs.places.free_places_of.Statement.{statement}
 use Rattle.finding_stages.proofs.places.free_places_of.Tie as tie
 

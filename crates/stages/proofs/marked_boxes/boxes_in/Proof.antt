@@ -1,6 +1,6 @@
 -- `marked_boxes::boxes_in` meets its contract.
 use borrow.Author.Needs.{needs}
-use Rattle.stages.proofs.Bundle.{sent, only}
+use Rattle.page.proofs.Bundle.{sent, only}
 use Rattle.stages.proofs.Sent.{boxes-ready, boxes-sent}
 use Rattle.stages.proofs.marked_boxes.boxes_in.Statement.{statement}
 use Rattle.stages.proofs.marked_boxes.boxes_in.Tie as tie

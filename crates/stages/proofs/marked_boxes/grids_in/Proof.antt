@@ -1,7 +1,7 @@
 -- `marked_boxes::grids_in` meets its contract.
 use borrow.Author.Needs.{needs}
 use mathlib.Core.Path.{refl}
-use Rattle.stages.proofs.Bundle.{sent, only, kept}
+use Rattle.page.proofs.Bundle.{sent, only, kept}
 use Rattle.stages.proofs.Sent.{grids-sent}
 use Rattle.stages.proofs.marked_boxes.grids_in.Statement.{statement}
 use Rattle.stages.proofs.marked_boxes.grids_in.Tie as tie

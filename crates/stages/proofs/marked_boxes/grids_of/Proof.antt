@@ -2,7 +2,7 @@
 use borrow.Author.Needs.{needs}
 use Prim.Native.Nat.{_*_}
 use Rattle.grids.proofs.Accepting.{limit-small}
-use Rattle.stages.proofs.Bundle.{cut}
+use Rattle.page.proofs.Bundle.{cut}
 use Rattle.stages.proofs.Sent.{grids-within, grids-room}
 use Rattle.stages.proofs.marked_boxes.grids_of.Statement.{statement}
 use Rattle.stages.proofs.marked_boxes.grids_of.Tie as tie

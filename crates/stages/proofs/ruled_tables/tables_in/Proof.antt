@@ -1,7 +1,7 @@
 -- `ruled_tables::tables_in` meets its contract.
 use borrow.Author.Needs.{needs}
 use mathlib.Core.Path.{refl}
-use Rattle.stages.proofs.Bundle.{sent, only, kept}
+use Rattle.page.proofs.Bundle.{sent, only, kept}
 use Rattle.stages.proofs.Sent.{tables-sent}
 use Rattle.stages.proofs.ruled_tables.tables_in.Statement.{statement}
 use Rattle.stages.proofs.ruled_tables.tables_in.Tie as tie

@@ -2,7 +2,7 @@
 use borrow.Author.Needs.{needs}
 use Prim.Native.Nat.{_*_}
 use Rattle.tables.proofs.Accepting.{join-of}
-use Rattle.stages.proofs.Bundle.{cut}
+use Rattle.page.proofs.Bundle.{cut}
 use Rattle.stages.proofs.Sent.{tables-within, tables-room}
 use Rattle.stages.proofs.ruled_tables.tables_of.Statement.{statement}
 use Rattle.stages.proofs.ruled_tables.tables_of.Tie as tie

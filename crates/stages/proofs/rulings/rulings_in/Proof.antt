@@ -2,7 +2,7 @@
 use borrow.Author.Needs.{needs}
 use mathlib.Core.Path.{refl}
 use Rattle.params.proofs.Limits.{limits}
-use Rattle.stages.proofs.Bundle.{sent, only, kept}
+use Rattle.page.proofs.Bundle.{sent, only, kept}
 use Rattle.stages.proofs.Sent.{made-sent}
 use Rattle.stages.proofs.rulings.rulings_in.Statement.{statement}
 use Rattle.stages.proofs.rulings.rulings_in.Tie as tie

@@ -1,7 +1,7 @@
 -- `rulings::split_in` meets its contract.
 use borrow.Author.Needs.{needs}
 use mathlib.Core.Path.{refl}
-use Rattle.stages.proofs.Bundle.{sent, only, kept}
+use Rattle.page.proofs.Bundle.{sent, only, kept}
 use Rattle.stages.proofs.Sent.{split-sent}
 use Rattle.stages.proofs.rulings.split_in.Statement.{statement}
 use Rattle.stages.proofs.rulings.split_in.Tie as tie

@@ -1,6 +1,6 @@
 -- `rulings::split_of` meets its contract: the part that is lent on is as long as it says.
 use borrow.Author.Needs.{needs}
-use Rattle.stages.proofs.Bundle.{cut}
+use Rattle.page.proofs.Bundle.{cut}
 use Rattle.stages.proofs.rulings.split_of.Statement.{statement}
 use Rattle.stages.proofs.rulings.split_of.Tie as tie
 
