@@ -13,14 +13,19 @@ use crate::random::Random;
 use crate::rust_layout::with_glyphs;
 use crate::timing::{Measurement, Times, compare};
 
-pub const MEASUREMENTS: [Measurement; 4] = [
+pub const MEASUREMENTS: [Measurement; 6] = [
     ("boxes, a form of 3,000 glyphs", || {
         find(masks::form(&mut Random::new(1), 2_480, 3_508, 3_000))
     }),
     ("boxes, 16,384 small glyph boxes", || {
         find(masks::crowded(&mut Random::new(1), 16_384))
     }),
+    (
+        "boxes, 16,384 glyph boxes, all too narrow at the first test",
+        || find(narrow()),
+    ),
     ("grids, 16,384 boxes in one grid", || group(table(), 1)),
+    ("grids, 16,384 boxes in one row", || group(row(), 1)),
     ("grids, 16,384 boxes, none touching", || {
         group(apart(), 16_384)
     }),
@@ -42,6 +47,21 @@ fn find(page: GlyphsPage) -> Times {
             black_box(rulings::boxes(black_box(&layout), page.dpi, &p));
         },
     )
+}
+
+/// Glyph boxes of which none is wide enough for a box.
+fn narrow() -> GlyphsPage {
+    let mut page = masks::crowded(&mut Random::new(1), 16_384);
+    page.params.box_min_xh = 10.0;
+    page.params.box_max_xh = 12.0;
+    page
+}
+
+/// Boxes of one row, half of them above each other.
+fn row() -> Vec<u32> {
+    (0..16_384u32)
+        .flat_map(|i| [i % 8_172, 10, i % 8_172 + 20, 30])
+        .collect()
 }
 
 /// 128 rows of 128 boxes.

@@ -77,7 +77,8 @@ greatestOf (n ∷ ns) = max n (greatestOf ns)
 
 unfoldable pub tableAt : Scan → TableLists → ℕ → Finding
 tableAt s t k =
-    tableFinding (s .settings) (s .caps) (onPage s (rectAt (t .bounds) k)) (getD (t .rows) k 0) (getD (t .columns) k 0) (getD (t .rulings) k 0) (getD (t .shares) k nan)
+    tableFinding (s .settings) (s .caps) (onPage s (rectAt (t .bounds) k)) (getD (t .rows) k 0) (getD (t .columns) k 0)
+    (getD (t .rulings) k 0) (getD (t .shares) k nan)
 
 abbrev pub tableFindings : Scan → TableLists → List Finding
 tableFindings s t = map (tableAt s t) (below (count (t .bounds)))
@@ -101,8 +102,8 @@ longest r places = greatestOf (map (lengthAt (r .rects) (r .directions)) places)
 unfoldable pub freeOf : Scan → RulingLists → List ℕ → Finding
 unfolding greatestOf
 freeOf s r places =
-    freeFinding (s .settings) (s .caps) (onPage s (around (r .rects) places)) (length places) (horizontals r places) (verticals r places) (longest r places)
-    (meanAt (r .contrasts) places)
+    freeFinding (s .settings) (s .caps) (onPage s (around (r .rects) places)) (length places) (horizontals r places) (verticals r places)
+    (longest r places) (meanAt (r .contrasts) places)
 
 -- How many findings free rules at some places make: one if they are at least min_free_rules.
 abbrev pub freeCount : RulingsParams → List ℕ → ℕ
@@ -123,7 +124,8 @@ folds p dpi rects directions faint = keep (λ k. isFold p (foldInches dpi rects 
 
 unfoldable pub foldAt : Scan → ℕ → RulingLists → ℕ → Finding
 foldAt s dpi r k =
-    foldFinding (s .settings) (s .caps) (onPage s (rectAt (r .rects) k)) (not (lying (r .directions) k)) (foldInches dpi (r .rects) (r .directions) k) (getD (r .contrasts) k nan)
+    foldFinding (s .settings) (s .caps) (onPage s (rectAt (r .rects) k)) (not (lying (r .directions) k))
+    (foldInches dpi (r .rects) (r .directions) k) (getD (r .contrasts) k nan)
 
 abbrev pub foldFindings : Scan → ℕ → RulingLists → List ℕ → List Finding
 foldFindings s dpi r places = map (foldAt s dpi r) places

@@ -21,10 +21,13 @@ pub record Paired (kind n : ℕ) (f : ℕ → Finding) (fs : List Finding) (plac
 pub record FindingsPaired (s : Scan) (dpi : ℕ) (r : RulingLists) (printed faint : List ℕ) (t : TableLists) (free : List ℕ) (b : BoxLists) : Type 0 where
   pub tables : (place : ℕ → ℕ) × Paired 16 (count (t .bounds)) (tableAt s t) (inOrder (made s dpi r printed faint t free b)) place
   pub free-rules : (place : ℕ → ℕ)
-      × Paired 17 (freeCount (s .settings) (freePlaces printed free)) (λ k. freeOf s r (freePlaces printed free)) (inOrder (made s dpi r printed faint t free b)) place
+      × Paired 17 (freeCount (s .settings) (freePlaces printed free)) (λ k. freeOf s r (freePlaces printed free))
+      (inOrder (made s dpi r printed faint t free b)) place
   pub grids : (place : ℕ → ℕ)
-      × Paired 18 (length (b .grids)) (λ k. gridOf s (b .rects) (b .marks) (b .coverages) (b .set (getD (b .grids) k 0))) (inOrder (made s dpi r printed faint t free b)) place
+      × Paired 18 (length (b .grids)) (λ k. gridOf s (b .rects) (b .marks) (b .coverages) (b .set (getD (b .grids) k 0)))
+      (inOrder (made s dpi r printed faint t free b)) place
   pub fold-lines : (place : ℕ → ℕ)
-      × Paired 19 (length (folds (s .settings) dpi (r .rects) (r .directions) faint)) (λ k. foldAt s dpi r (getD (folds (s .settings) dpi (r .rects) (r .directions) faint) k 0))
+      × Paired 19 (length (folds (s .settings) dpi (r .rects) (r .directions) faint))
+      (λ k. foldAt s dpi r (getD (folds (s .settings) dpi (r .rects) (r .directions) faint) k 0))
       (inOrder (made s dpi r printed faint t free b)) place
   pub order : (from : ℕ → ℕ) × Ordered (made s dpi r printed faint t free b) (inOrder (made s dpi r printed faint t free b)) from

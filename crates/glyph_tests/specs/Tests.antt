@@ -79,7 +79,9 @@ runShare q n = div binary64 (whole (longestRun q n)) (whole n)
 unfoldable pub edgeCoverage : Ink → Rect → ℕ → Float
 edgeCoverage ink f tol =
     minimumNumber
-    (minimumNumber (minimumNumber (runShare (topEdge ink f tol) (widthOf f)) (runShare (bottomEdge ink f tol) (widthOf f))) (runShare (leftEdge ink f tol) (heightOf f)))
+    (minimumNumber
+    (minimumNumber (runShare (topEdge ink f tol) (widthOf f)) (runShare (bottomEdge ink f tol) (widthOf f)))
+    (runShare (leftEdge ink f tol) (heightOf f)))
     (runShare (rightEdge ink f tol) (heightOf f))
 
 -- ---- the inner half

@@ -2,3 +2,4 @@
 pub mod Counts
 pub mod Places
 pub mod Runs
+pub mod Banded

@@ -1,7 +1,7 @@
 // The lines of a rectangle, its rows or its columns, as `rows` says: the first and the last over a limit, and the longest run of lines with ink.
 ghost use mathlib.Core.Path.{_≡_};
-ghost use mathlib.Core.Bool.{cond};
-ghost use Prim.Native.Nat.{suc, _+_, _^_, _≤_, _<_};
+ghost use mathlib.Core.Bool.{cond, false};
+ghost use Prim.Native.Nat.{ℕ, suc, _+_, _^_, _≤_, _<_};
 ghost use lib.Dec.{ltb};
 ghost use lib.Ieee.{Float};
 ghost use Rattle.ink.specs.Ink.{inkAt};
@@ -42,10 +42,33 @@ fn line_has_ink(mask: &[u8], w: usize, r: Rect, rows: bool, k: u32) -> bool
     crate::read::column_has_ink(mask, w, r, k)
 }
 
-fn is_over(limit: f64, n: u32) -> bool
+pub fn is_over(limit: f64, n: u32) -> bool
     ensures { λ t. ⌜ t ≡ over limit n ⌝ }
 {
     !(n as f64 <= limit)
+}
+
+// How many lines may be passed over from the front, since none of them is over the limit: columns are tried in bands.
+fn passed_from_front(mask: &[u8], w: usize, r: Rect, rows: bool, limit: f64) -> u32
+    requires { ⌜ Readable (now mask) w r ⌝ }
+    ensures { λ k. ⌜ (k ≤ linesOf r rows) × ((i : ℕ) → i < k → over limit (lineInk (inkAt w (now (mask .entry))) r rows i) ≡ false) ⌝ }
+{
+    if rows {
+        return 0;
+    }
+    crate::bands::first_columns(mask, w, r, limit)
+}
+
+// Where those begin that may be passed over from the back.
+fn passed_from_back(mask: &[u8], w: usize, r: Rect, rows: bool, limit: f64) -> u32
+    requires { ⌜ Readable (now mask) w r ⌝ }
+    ensures { λ k. ⌜ (k ≤ linesOf r rows)
+        × ((i : ℕ) → k ≤ i → i < linesOf r rows → over limit (lineInk (inkAt w (now (mask .entry))) r rows i) ≡ false) ⌝ }
+{
+    if rows {
+        return r.height();
+    }
+    crate::bands::last_columns(mask, w, r, limit)
 }
 
 // The first line whose ink is over the limit, and the number of lines where none is.
@@ -54,7 +77,7 @@ pub fn first_line(mask: &[u8], w: usize, r: Rect, rows: bool, limit: f64) -> u32
     ensures { λ k. ⌜ k ≡ firstPlace (λ k. over limit (lineInk (inkAt w (now (mask .entry))) r rows k)) (linesOf r rows) ⌝ }
 {
     let n = lines_of(r, rows);
-    let mut k = 0;
+    let mut k = passed_from_front(mask, w, r, rows, limit);
     while k < n {
         if is_over(limit, line_count(mask, w, r, rows, k)) {
             return k;
@@ -69,7 +92,7 @@ pub fn last_line_end(mask: &[u8], w: usize, r: Rect, rows: bool, limit: f64) -> 
     requires { ⌜ Readable (now mask) w r ⌝ }
     ensures { λ k. ⌜ k ≡ lastEnd (λ k. over limit (lineInk (inkAt w (now (mask .entry))) r rows k)) (linesOf r rows) ⌝ }
 {
-    let mut end = lines_of(r, rows);
+    let mut end = passed_from_back(mask, w, r, rows, limit);
     while 0 < end {
         let last = end - 1;
         if is_over(limit, line_count(mask, w, r, rows, last)) {

@@ -10,14 +10,14 @@ ghost use Rattle.ink.specs.Steps.{Readable};
 use rects::Rect;
 
 // Is there ink in column x of row y?
-fn is_ink(mask: &[u8], w: usize, x: usize, y: usize) -> bool
+pub fn is_ink(mask: &[u8], w: usize, x: usize, y: usize) -> bool
     requires { ⌜ y * w + x < length (now mask) ⌝ }
     ensures { λ r. ⌜ r ≡ inkAt w (now (mask .entry)) x y ⌝ }
 {
     mask[y * w + x] != 0
 }
 
-fn one(inked: bool) -> u32
+pub fn one(inked: bool) -> u32
     ensures { λ r. ⌜ r ≡ cond inked 1 0 ⌝ }
 {
     if inked { 1 } else { 0 }

@@ -33,12 +33,16 @@ placeShows sides gray shear shear-x x y =
     let X = x - entry shear-x y in
     cond (leb (entry shear-x y) x && ltb X (sides .pw)) (pageShows sides gray shear X y) 255
 
--- The levelled raster, row by row. `Levelling` below is document 01's sentence; it holds of this raster (`levelled-is`) and of no other (`levelling-unique`).
+-- The levelled raster, row by row. `Levelling` below is document 01's sentence; it holds of this raster (`levelled-is`) and of no other
+-- (`levelling-unique`).
 abbrev pub levelled : Sides → List ℕ → List ℤ → List ℤ → List ℕ
 levelled sides gray shear shear-x = raster (sides .w) (sides .h) (placeShows sides gray shear shear-x)
 
 -- All 255, then each page pixel goes to its place: a place that a page pixel reaches holds that pixel, and every other holds 255.
 pub record Levelling (sides : Sides) (gray : List ℕ) (shear shear-x : List ℤ) (out : List ℕ) : Type 0 where
   pub long : length out ≡ sides .w * sides .h
-  pub reached : (X Y : ℕ) → X < sides .pw → Y < sides .ph → getD out (levelRow shear X Y * sides .w + levelColumn shear shear-x X Y) 0 ≡ getD gray (Y * sides .pw + X) 0
-  pub white : (x y : ℕ) → x < sides .w → y < sides .h → ((X Y : ℕ) → X < sides .pw → Y < sides .ph → levelColumn shear shear-x X Y ≡ x → levelRow shear X Y ≡ y → ⊥) → getD out (y * sides .w + x) 0 ≡ 255
+  pub reached : (X Y : ℕ) → X < sides .pw → Y < sides .ph
+      → getD out (levelRow shear X Y * sides .w + levelColumn shear shear-x X Y) 0 ≡ getD gray (Y * sides .pw + X) 0
+  pub white : (x y : ℕ) → x < sides .w → y < sides .h
+      → ((X Y : ℕ) → X < sides .pw → Y < sides .ph → levelColumn shear shear-x X Y ≡ x → levelRow shear X Y ≡ y → ⊥)
+      → getD out (y * sides .w + x) 0 ≡ 255

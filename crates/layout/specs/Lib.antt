@@ -1,4 +1,4 @@
--- What a reader must believe of `layout`: the questions about sides, tables and rectangles, levelling, and the way back to the page. `Steps` is not needed to read the contracts.
+-- What a reader must believe of `layout`: the questions about sides, tables and rectangles, levelling, and the way back to the page.
 pub mod Raster
 pub mod Sides
 pub mod Tables

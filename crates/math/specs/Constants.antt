@@ -36,6 +36,7 @@ pub zero-is : zero ≡ fraction 0 1
 unfolding ofBits round
 zero-is = refl
 
-pub constants-are : (threeTenths ≡ fraction 3 10) × (half ≡ fraction 1 2) × (sixteenTenths ≡ fraction 16 10) × (two ≡ fraction 2 1) × (ten ≡ fraction 10 1) × (million ≡ fraction 1_000_000 1) × (twoTo52 ≡ fraction (2 ^ 52) 1)
+pub constants-are : (threeTenths ≡ fraction 3 10) × (half ≡ fraction 1 2) × (sixteenTenths ≡ fraction 16 10) × (two ≡ fraction 2 1)
+    × (ten ≡ fraction 10 1) × (million ≡ fraction 1_000_000 1) × (twoTo52 ≡ fraction (2 ^ 52) 1)
 unfolding ofBits round
 constants-are = (refl, refl, refl, refl, refl, refl, refl)

@@ -117,7 +117,8 @@ pub record Detect (g : Page) (l l′ : Lent) (a : Answer) : Type 0 where
   pub number : a .number ≡ firstMissed (allQuestions g l)
   pub counts : a ≡ cond (eqb (a .number) 0) (accepted (countsOf g) (length (Page.findings g))) (refusal (a .number))
   pub refused : (a .number ≡ 0 → ⊥) → (a .number ≡ 15 → ⊥) → l′ ≡ l
-  pub raster : (a .number ≡ 0) ⊎ (a .number ≡ 15) → (l′ .rules .levelled ≡ Page.raster g) × Levelling (g .sides) (g .gray) (g .shear) (g .shear-x) (l′ .rules .levelled)
+  pub raster : (a .number ≡ 0) ⊎ (a .number ≡ 15)
+      → (l′ .rules .levelled ≡ Page.raster g) × Levelling (g .sides) (g .gray) (g .shear) (g .shear-x) (l′ .rules .levelled)
   pub answers : a .number ≡ 0 → Answers g l l′
   pub limits : a .number ≡ 0 → Limits g
   pub rulings : a .number ≡ 0 → RulingsRight g l′

@@ -12,12 +12,16 @@ use Rattle.findings.specs.Made.{everyFinite}
 use Rattle.page.specs.Page.{Page, made}
 use Rattle.page.specs.Lent.{Lent, hasRoom}
 
+-- Question 3 of the rasters: grey page width × page height bytes, ink levelled width × height bytes.
+abbrev pub rastersLong : Page → Bool
+rastersLong g = rasterFits (g .sides .pw) (g .sides .ph) (length (g .gray)) && rasterFits (g .sides .w) (g .sides .h) (length (g .ink))
+
 -- Questions 1 to 13, about the page alone.
 abbrev pub givenQuestions : Page → List Question
 givenQuestions g =
     (1, sidesFit (g .sides))
     ∷ scanQuestions (g .dpi) (g .xheight)
-    ++ (3, rasterFits (g .sides .pw) (g .sides .ph) (length (g .gray)) && rasterFits (g .sides .w) (g .sides .h) (length (g .ink)) && shearsLong (g .sides) (g .shear) (g .shear-x))
+    ++ (3, rastersLong g && shearsLong (g .sides) (g .shear) (g .shear-x))
     ∷ (4, shearsFit (g .sides) (g .shear) (g .shear-x))
     ∷ (5, countFits 4096 (g .pieces) && countFits 16384 (g .glyphs))
     ∷ (6, allInside (g .sides .w) (g .sides .h) (g .pieces) && allInside (g .sides .w) (g .sides .h) (g .glyphs))

@@ -8,9 +8,10 @@ use borrow.Author.Needs.{needs}
 use lib.Ieee.{Float}
 use Rattle.rects.specs.declared.Rect.{Rect}
 use Rattle.ink.specs.Ink.{inkAt}
-use Rattle.ink.specs.Steps.{lineInk}
+use Rattle.ink.specs.Steps.{linesOf, lineInk}
 use Rattle.ink.specs.Places.{over, lastEnd}
 use Rattle.ink.proofs.Places.{last-found, last-passed, last-none}
+use Rattle.ink.proofs.Banded.{last-before}
 use Rattle.ink.proofs.lines.last_line_end.Statement.{statement}
 use Rattle.ink.proofs.lines.last_line_end.Tie as tie
 
@@ -23,8 +24,8 @@ Inv-loop mask w r rows limit k₀ k = (k ≤ k₀) × (lastEnd (test mask w r ro
 abbrev μ-loop : tie.MeasureT-loop
 μ-loop mask w r rows limit k₀ k = k
 
-lines-of-requires : tie.Need-lines-of-requires Inv-loop μ-loop
-lines-of-requires c κs = search needs
+passed-from-back-requires : tie.Need-passed-from-back-requires Inv-loop μ-loop
+passed-from-back-requires c κs = search needs
 
 loop-holds : tie.Need-loop-holds Inv-loop μ-loop
 loop-holds c = (omega arith, refl)
@@ -33,7 +34,7 @@ sub-last : tie.Need-sub-last Inv-loop μ-loop
 sub-last c = omega arith
 
 line-count-requires : tie.Need-line-count-requires Inv-loop μ-loop
-line-count-requires c κs = (c .before .before .before .before .pre, omega (arith, c .before .before .lines-of .ensures))
+line-count-requires c κs = (c .before .before .before .before .pre, omega (arith, c .before .before .passed-from-back .ensures .0))
 
 is-over-requires : tie.Need-is-over-requires Inv-loop μ-loop
 is-over-requires c κs = tt
@@ -46,7 +47,7 @@ returns : tie.Need-returns Inv-loop μ-loop
 returns c =
     let a = c .before .before .before .before .before .before .before .args in
     let q = test (a .mask .now) (a .w) (a .r) (a .rows) (a .limit) in
-    sym (last-found q (c .before .before .before .before .loop .end) (c .before .before .before .loop-test .taken) (sym (found (c .before)) ∙ c .if1 .taken)) ∙ c .before .before .before .before .loop .inv .1 ∙ ap (lastEnd q) (c .before .before .before .before .before .lines-of .ensures)
+    sym (last-found q (c .before .before .before .before .loop .end) (c .before .before .before .loop-test .taken) (sym (found (c .before)) ∙ c .if1 .taken)) ∙ c .before .before .before .before .loop .inv .1 ∙ last-before q (linesOf (a .r) (a .rows)) (c .before .before .before .before .before .passed-from-back .result) (c .before .before .before .before .before .passed-from-back .ensures .0) (c .before .before .before .before .before .passed-from-back .ensures .1)
 
 loop-less : tie.Need-loop-less Inv-loop μ-loop
 loop-less c = omega arith
@@ -61,7 +62,7 @@ returns-2 : tie.Need-returns-2 Inv-loop μ-loop
 returns-2 c =
     let a = c .before .before .before .before .args in
     let q = test (a .mask .now) (a .w) (a .r) (a .rows) (a .limit) in
-    sym (last-none q (c .before .loop .end) (c .loop-test .left)) ∙ c .before .loop .inv .1 ∙ ap (lastEnd q) (c .before .before .lines-of .ensures)
+    sym (last-none q (c .before .loop .end) (c .loop-test .left)) ∙ c .before .loop .inv .1 ∙ last-before q (linesOf (a .r) (a .rows)) (c .before .before .passed-from-back .result) (c .before .before .passed-from-back .ensures .0) (c .before .before .passed-from-back .ensures .1)
 
 pub last-line-end-spec : {M : Type 1} → statement M
 last-line-end-spec =
@@ -69,7 +70,7 @@ last-line-end-spec =
     (tie.spec
     Inv-loop
     μ-loop
-    lines-of-requires
+    passed-from-back-requires
     loop-holds
     sub-last
     line-count-requires
