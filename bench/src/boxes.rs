@@ -13,7 +13,7 @@ use crate::random::Random;
 use crate::rust_layout::with_glyphs;
 use crate::timing::{Measurement, Times, compare};
 
-pub const MEASUREMENTS: [Measurement; 6] = [
+pub const MEASUREMENTS: [Measurement; 7] = [
     ("boxes, a form of 3,000 glyphs", || {
         find(masks::form(&mut Random::new(1), 2_480, 3_508, 3_000))
     }),
@@ -23,6 +23,10 @@ pub const MEASUREMENTS: [Measurement; 6] = [
     (
         "boxes, 16,384 glyph boxes, all too narrow at the first test",
         || find(narrow()),
+    ),
+    (
+        "boxes, a glyph box as large as a picture of 8,192 square",
+        || find(whole()),
     ),
     ("grids, 16,384 boxes in one grid", || group(table(), 1)),
     ("grids, 16,384 boxes in one row", || group(row(), 1)),
@@ -54,6 +58,16 @@ fn narrow() -> GlyphsPage {
     let mut page = masks::crowded(&mut Random::new(1), 16_384);
     page.params.box_min_xh = 10.0;
     page.params.box_max_xh = 12.0;
+    page
+}
+
+/// A glyph box as large as the picture, with ink in its first row and no column over the limit, so that
+/// every column is tried.
+fn whole() -> GlyphsPage {
+    let mut page = masks::blank(8_192, 8_192);
+    page.xheight = 4_096.0;
+    page.ink[..8_192].fill(1);
+    page.glyphs.extend([0, 0, 8_191, 8_191]);
     page
 }
 

@@ -14,13 +14,15 @@ use crate::tally::{Tally, bits};
 
 pub const MOST_GLYPHS: usize = 16_384;
 
-/// Small masks, and now and then one with as many glyph boxes or as long a side as there may be.
+/// Small masks, now and then one with a tall glyph box, and one with as many glyph boxes or as long a
+/// side as there may be.
 pub fn boxes(random: &mut Random, count: u64) -> Tally {
     let mut tally = Tally::default();
     for case in 0..count {
         let mut page = match case % 50_000 {
             49_998 => masks::crowded(random, MOST_GLYPHS),
             24_998 => masks::large(random),
+            _ if case % 200 == 50 => masks::tall(random),
             _ => masks::small(random),
         };
         if case % 4 == 3 {

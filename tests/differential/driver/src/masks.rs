@@ -73,6 +73,36 @@ pub fn large(random: &mut Random) -> GlyphsPage {
     page
 }
 
+/// Large frames, whose columns are tried in bands: at each end up to nine columns have as much ink as
+/// the overshoot limit, or one more or less.
+pub fn tall(random: &mut Random) -> GlyphsPage {
+    let height = 250 + random.below(14) as usize;
+    let width = height - 8 + random.below(16) as usize;
+    let mut page = blank(width, height);
+    page.params.box_min_xh = 1.0;
+    page.params.box_max_xh = 30.0;
+    page.params.box_overshoot_fraction = random.below(4) as f64 / 10.0;
+    let limit = (page.params.box_overshoot_fraction * height as f64) as u32;
+    let (right, bottom) = (width as u32 - 1, height as u32 - 1);
+    let (left, last) = (random.below(10) as u32, right - random.below(10) as u32);
+    for y in 0..=bottom {
+        for x in [left, left + 1, last - 1, last] {
+            set(&mut page, x, y, 1);
+        }
+    }
+    for x in left..=last {
+        set(&mut page, x, 0, 1);
+        set(&mut page, x, bottom, 1);
+    }
+    for x in (0..left).chain(last + 1..=right) {
+        for y in 0..(limit + random.below(3) as u32).saturating_sub(1) {
+            set(&mut page, x, y, 255);
+        }
+    }
+    page.glyphs.extend([0, 0, right, bottom]);
+    page
+}
+
 /// A form: rows of glyphs of letter size, every eighth of them an answer box of one size, some of
 /// them ticked with a stroke that leaves the box.
 pub fn form(random: &mut Random, width: usize, height: usize, count: usize) -> GlyphsPage {
