@@ -19,9 +19,9 @@ use Rattle.rects.specs.Steps.{AllInside}
 use Rattle.rects.proofs.Questions.{has-numbers}
 use Rattle.params.specs.Limits.{alignLimit}
 use Rattle.boxes.proofs.EveryBox.{rectangles-long}
-use Rattle.grids.specs.Boxes.{touch}
-use Rattle.grids.specs.Grids.{boxSets, isGrid, gridNumbers}
-use Rattle.grids.specs.Steps as Grids
+use Rattle.box_sets.specs.Boxes.{touch, boxSets}
+use Rattle.box_sets.specs.Steps.{PassedBoxes}
+use Rattle.grids.specs.Grids.{isGrid, gridNumbers}
 use Rattle.grids.proofs.Choosing as Choosing
 use Rattle.findings.specs.Steps.{AllGiven, GridsGiven}
 use Rattle.page.specs.Page as Page
@@ -100,7 +100,7 @@ module _ (g : Page) (few : count (g .glyphs) ≤ 16384) (boxes-few : length (Pag
   rects-counted = omega (arith, rects-long)
 
   -- The boxes pass questions 5 and 6.
-  pub boxes-given : Grids.PassedBoxes (Page.boxRects g)
+  pub boxes-given : PassedBoxes (Page.boxRects g)
   boxes-given = record { inside = below; few = omega (arith, rects-counted) }
 
   -- There are no more sets than boxes.

@@ -6,10 +6,10 @@ use Rattle.rects.specs.Rects.{count}
 use Rattle.rects.proofs.Questions.{all-inside-says}
 use Rattle.sets.proofs.Grown.{closedSets-listed}
 use Rattle.sets.proofs.Where.{listed-where}
-use Rattle.grids.specs.Boxes.{touch}
-use Rattle.grids.specs.Grids.{boxSets, isGrid, gridNumbers}
+use Rattle.box_sets.specs.Boxes.{touch, boxSets}
+use Rattle.reading_order.proofs.ReadingOrder.{in-reading-order}
+use Rattle.grids.specs.Grids.{isGrid, gridNumbers}
 use Rattle.grids.specs.Call.{Demand3}
-use Rattle.grids.proofs.ReadingOrder.{in-reading-order}
 
 pub demand3 : (rects : List ℕ) (limit least : ℕ) → Demand3 rects limit least
 unfolding gridNumbers

@@ -12,12 +12,14 @@ use Rattle.sets.proofs.Ascending.{ascending-below, sublist}
 use Rattle.sets.proofs.Listings.{members-listed, read-as}
 use Rattle.sets.proofs.Sizes.{sets-few, ends-exchanged, total-exchanged}
 use Rattle.sets.proofs.Grown.{closedSets-listed}
-use Rattle.grids.specs.Boxes.{touch}
-use Rattle.grids.specs.Reading.{readingOrder}
-use Rattle.grids.specs.Grids.{boxSets, readings}
+use Rattle.box_sets.specs.Boxes.{touch, boxSets}
+use Rattle.box_sets.specs.Steps.{Connected}
+use Rattle.reading_order.specs.Reading.{readingOrder}
+use Rattle.reading_order.specs.Steps.{Indexes, SetsIn}
+use Rattle.reading_order.proofs.ReadingOrder.{reading-long}
+use Rattle.grids.specs.Grids.{readings}
 use Rattle.grids.specs.Call.{Lent}
-use Rattle.grids.proofs.ReadingOrder.{reading-long}
-use Rattle.grids.specs.Steps.{Connected, Indexes, SetsIn, Chose, Filled}
+use Rattle.grids.specs.Steps.{Chose, Filled}
 
 module _ (rects : List ℕ) (limit : ℕ) {m e m′ e′ : List ℕ} {r : ℕ} (C : Connected rects limit m e m′ e′ r) (room : count rects ≤ length m)
     (wide : count rects ≤ length e) where

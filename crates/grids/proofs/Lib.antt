@@ -1,8 +1,4 @@
 -- Why the grids are right: laws that belong to no one function.
-pub mod Similar
-pub mod SameParent
-pub mod Writing
-pub mod ReadingOrder
 pub mod Choosing
 pub mod Demand
 pub mod Filling

@@ -13,8 +13,9 @@ use Rattle.params.specs.Settings.{settingsQuestions}
 use Rattle.rects.specs.Rects.{count, countFits, allInside}
 use Rattle.rects.proofs.Questions.{count-says, all-inside-says}
 use Rattle.grids.specs.Call.{Given, Lent, hasRoom, givenQuestions, questions}
-use Rattle.grids.specs.Steps.{PassedBoxes, Roomy}
 use Rattle.params.specs.Steps.{SettingsPassed}
+use Rattle.box_sets.specs.Steps.{PassedBoxes}
+use Rattle.grids.specs.Steps.{Roomy}
 
 -- two numbers and three tests, in the order of the questions
 abbrev pub nested : ℕ → Bool → Bool → ℕ → Bool → ℕ

@@ -15,10 +15,10 @@ use Rattle.params.specs.declared.settings.RulingsParams.{RulingsParams}
 use Rattle.params.specs.Scan.{xheightQuestions}
 use Rattle.params.specs.Settings.{settingsQuestions}
 use Rattle.params.specs.Limits.{IsLimit, alignSetting, alignLimit}
+use Rattle.box_sets.specs.Boxes.{Touch, boxSets}
+use Rattle.reading_order.specs.Reading.{InReadingOrder, readingOrder}
 use Rattle.grids.specs.declared.Answer.{Answer}
-use Rattle.grids.specs.Boxes.{Touch}
-use Rattle.grids.specs.Reading.{InReadingOrder, readingOrder}
-use Rattle.grids.specs.Grids.{boxSets, isGrid, grids, readings}
+use Rattle.grids.specs.Grids.{isGrid, grids, readings}
 
 -- What the call is given: the boxes by their rectangles.
 pub record Given : Type 0 where

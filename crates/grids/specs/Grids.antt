@@ -5,14 +5,7 @@ use Prim.Native.Nat.{ℕ}
 use lib.Dec.{leb}
 use lib.ListN.{length, getD}
 use Rattle.lists.specs.Lists.{below, keep, concat}
-use Rattle.sets.specs.Listing.{closedSets}
-use Rattle.rects.specs.Rects.{count}
-use Rattle.grids.specs.Boxes.{touch}
-use Rattle.grids.specs.Reading.{readingOrder}
-
--- The closed sets of boxes, by smallest index, members ascending.
-abbrev pub boxSets : List ℕ → ℕ → List (List ℕ)
-boxSets rects limit = closedSets (count rects) (touch rects limit)
+use Rattle.reading_order.specs.Reading.{readingOrder}
 
 -- A set reaches the grid minimum: it has at least grid_min_boxes members.
 abbrev pub isGrid : ℕ → List ℕ → Bool

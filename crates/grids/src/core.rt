@@ -4,9 +4,9 @@ ghost use Prim.Native.Nat.{_<_, _^_};
 ghost use Rattle.rects.specs.Rects.{count};
 ghost use Rattle.params.specs.Limits.{alignLimit};
 ghost use Rattle.params.specs.Steps.{SettingsPassed};
-ghost use Rattle.grids.specs.Steps.{PassedBoxes, Roomy, Filled};
-use crate::reading;
-use crate::touch;
+ghost use Rattle.box_sets.specs.Steps.{PassedBoxes};
+ghost use Rattle.grids.specs.Steps.{Roomy, Filled};
+use crate::minimum;
 use params::settings::RulingsParams;
 
 // round(2 * grid_align_xh * xheight), for settings and an x-height that passed their questions.
@@ -68,8 +68,8 @@ pub fn find(
         })
         (r .sets) (r .grids) ⌝ }
 {
-    let sets = touch::connect(rects, limit, parents, members, ends, work);
-    reading::read_sets(rects, members, ends, sets, reading, parents, work, keys);
-    let grids = reading::choose(members, ends, sets, least, numbers);
+    let sets = box_sets::touch::connect(rects, limit, parents, members, ends, work);
+    reading_order::reading::read_sets(rects, members, ends, sets, reading, parents, work, keys);
+    let grids = minimum::choose(members, ends, sets, least, numbers);
     Counts { sets, grids }
 }

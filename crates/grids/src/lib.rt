@@ -1,8 +1,7 @@
 // Grids: connected sets of boxes that stand in rows or columns, with enough boxes; and the reading order of each set.
 pub mod core;
 mod guard;
-mod reading;
-mod touch;
+mod minimum;
 
 ghost use Rattle.grids.specs.Call.{Grids};
 use params::settings::RulingsParams;

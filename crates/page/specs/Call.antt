@@ -18,7 +18,7 @@ use Rattle.tables.specs.Call as Tables
 use Rattle.glyph_tests.specs.Limits.{boxLimitsOf}
 use Rattle.boxes.specs.Boxes.{EveryBox}
 use Rattle.boxes.specs.Call.{pagePlaces}
-use Rattle.grids.specs.Reading.{readingOrder}
+use Rattle.reading_order.specs.Reading.{readingOrder}
 use Rattle.grids.specs.Call as Grids
 use Rattle.evidence.specs.Finding.{rowOf}
 use Rattle.finding_lists.specs.Columns.{AllWritten}

@@ -12,6 +12,7 @@ use Rattle.params.specs.Steps.{SettingsPassed}
 use Rattle.glyph_tests.specs.Limits.{boxLimitsOf}
 use Rattle.boxes.specs.Steps as Boxes
 use Rattle.boxes.proofs.Accepted.{ready}
+use Rattle.box_sets.specs.Steps.{PassedBoxes}
 use Rattle.grids.specs.Call as GridsCall
 use Rattle.grids.specs.Steps as Grids
 use Rattle.page.specs.Page as Page
@@ -64,12 +65,12 @@ module _ (g : Page) (K : Known g) (l : MarkLists) (Q : MarkRoom (count (g .glyph
     coverages-still = still (Page.coverages g) (l .coverages) (M .coverages) (omega (arith, Boxed.coverages-long g (K .few-glyphs) few picture (M .below-8192), few, Q .coverages))
 
     pub grids-ready : {m e re nu pa wo : List ℕ} → m ≡ l .members → e ≡ l .ends → re ≡ l .reading → nu ≡ l .numbers → pa ≡ l .parents → wo ≡ l .order
-        → SettingsPassed (g .settings) (g .xheight) × (4 * n ≤ length b) × Grids.PassedBoxes (take (4 * n) b)
+        → SettingsPassed (g .settings) (g .xheight) × (4 * n ≤ length b) × PassedBoxes (take (4 * n) b)
         × Grids.Roomy n (record { members = m; ends = e; reading = re; numbers = nu; parents = pa; work = wo; keys = l .keys })
     grids-ready em ee er en ep ew = (
       K .settled,
       omega (arith, M .few, boxes-still, Q .boxes),
-      subst Grids.PassedBoxes (sym boxes-front) (Boxed.boxes-given g (K .few-glyphs) few picture (M .below-8192)),
+      subst PassedBoxes (sym boxes-front) (Boxed.boxes-given g (K .few-glyphs) few picture (M .below-8192)),
       record {
         members = omega (arith, M .few, ap length em, Q .members);
         ends = omega (arith, M .few, ap length ee, Q .ends);

@@ -8,7 +8,7 @@ use Rattle.questions.specs.Questions.{firstMissed}
 use Rattle.rects.specs.Rects.{count}
 use Rattle.rects.specs.Steps.{AllInside}
 use Rattle.segments.specs.Call.{AllNear}
-use Rattle.grids.specs.Reading.{readingOrder}
+use Rattle.reading_order.specs.Reading.{readingOrder}
 use Rattle.page.specs.declared.counts.Counts.{Counts}
 use Rattle.page.specs.Page as Page
 use Rattle.page.specs.Page.{Page}

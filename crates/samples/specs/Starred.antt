@@ -26,7 +26,7 @@ use Rattle.shapes.specs.Shapes.{linesOf, isTable}
 use Rattle.meeting.specs.Meeting.{joinedEnds, shareOf}
 use Rattle.table_lists.specs.Answers.{tableNumbers, freeNumbers}
 use Rattle.tables.specs.Call as Tables
-use Rattle.grids.specs.Boxes as Boxes
+use Rattle.box_sets.specs.Boxes as Boxes
 use Rattle.grids.specs.Grids as Grids
 
 -- What the definition computes, and what document 01 says; both as numbers.
@@ -139,7 +139,7 @@ similarWidths = record { computed = answer (Boxes.similar 7 10) ∷ answer (Boxe
 
 -- "No boxes, no grids.", whatever the limit and the grid minimum.
 abbrev pub noBoxes : ℕ → ℕ → Row
-noBoxes limit least = record { computed = Grids.grids least (Grids.boxSets [] limit); said = [] }
+noBoxes limit least = record { computed = Grids.grids least (Boxes.boxSets [] limit); said = [] }
 
 -- The table, for every two grey values a and b, every limit and every grid minimum.
 abbrev pub starred : ℕ → ℕ → ℕ → ℕ → List Row

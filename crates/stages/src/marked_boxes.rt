@@ -5,6 +5,7 @@ ghost use Rattle.params.specs.Steps.{SettingsPassed};
 ghost use Rattle.params.specs.Limits.{alignLimit};
 ghost use Rattle.glyph_tests.specs.Limits.{boxLimitsOf};
 ghost use Rattle.boxes.specs.Steps as Boxes;
+ghost use Rattle.box_sets.specs.Steps.{PassedBoxes};
 ghost use Rattle.grids.specs.Steps as Grids;
 ghost use Rattle.page.specs.Lent.{listAt};
 ghost use Rattle.page.specs.Steps.{Only, Kept};
@@ -49,7 +50,7 @@ fn grids_of(
     box_order: &mut [u32],
     box_keys: &mut [u64],
 ) -> Counts
-    requires { ⌜ SettingsPassed p xheight × (4 * n ≤ length (now boxes)) × Grids.PassedBoxes (take (4 * n) (now boxes)) × Grids.Roomy n
+    requires { ⌜ SettingsPassed p xheight × (4 * n ≤ length (now boxes)) × PassedBoxes (take (4 * n) (now boxes)) × Grids.Roomy n
         (record { members = now members; ends = now ends; reading = now reading; numbers = now numbers; parents = now «box_parents»; work = now «box_order»; keys = now «box_keys» }) ⌝ }
     ensures { λ r. ⌜ Grids.Filled (take (4 * n) (now (boxes .entry))) (alignLimit p xheight) (p .«grid_min_boxes»)
         (record {
@@ -102,7 +103,7 @@ pub fn grids_in(
     order: &mut [&mut [u32]; 2],
     box_keys: &mut [&mut [u64]; 1],
 ) -> Counts
-    requires { ⌜ SettingsPassed p xheight × (4 * n ≤ length (listAt 1 (now rects))) × Grids.PassedBoxes (take (4 * n) (listAt 1 (now rects))) × Grids.Roomy n
+    requires { ⌜ SettingsPassed p xheight × (4 * n ≤ length (listAt 1 (now rects))) × PassedBoxes (take (4 * n) (listAt 1 (now rects))) × Grids.Roomy n
         (record {
           members = listAt 2 (now members);
           ends = listAt 2 (now ends);

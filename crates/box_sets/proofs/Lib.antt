@@ -1,0 +1,3 @@
+-- Why boxes are joined rightly: laws that belong to no one function.
+pub mod Similar
+pub mod SameParent

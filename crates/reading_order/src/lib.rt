@@ -1,0 +1,2 @@
+// The reading order of sets of boxes.
+pub mod reading;
