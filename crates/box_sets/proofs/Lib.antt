@@ -1,3 +1,4 @@
 -- Why boxes are joined rightly: laws that belong to no one function.
 pub mod Similar
-pub mod SameParent
+pub mod Rows
+pub mod Sweeps

@@ -1,26 +1,23 @@
--- Similar widths, and touching, are the same either way round: the difference of two whole numbers is exact, and so is the larger.
+-- Similar widths are the same either way round: the difference of two whole numbers is exact, and so is the larger.
 use mathlib.Core.Path.{_≡_, refl, sym, ap, ap₂, _∙_}
-use mathlib.Core.Bool.{Bool, true, false, cond, not, _&&_, and-true, and-false}
-use Prim.Native.Nat.{ℕ, _+_, _-_, _*_, _%_, _^_, _≤_, _<_, max}
+use mathlib.Core.Bool.{Bool, true, false, cond}
+use Prim.Native.Nat.{ℕ, _-_, _*_, _^_, _≤_, _<_, max}
 use native.Mathlib.Nat.{mul-one, mul-assoc, mul-comm, mul-pos, mul-lt-mul-of-pos-right, mul-le-mul-right, max-comm, min-comm}
 use native.Mathlib.Decide.{decLt}
 use native.Mathlib.Omega.{arith}
-use lib.Dec.{leb, ltb, lit<}
+use lib.Dec.{ltb, lit<}
 use lib.Ieee.{Float, nan, inf, fin, binary64, up, down, round, sum, sub, mul, neg, lt, le, ofInt, isNan}
 use lib.Ieee.Exact.{HasValue}
 use lib.Ieee.Fits.{down-pos}
-use borrow.Author.Tests.{ltb-true, ltb-false, lt-ltb, le-ltb, leb-true, leb-false, le-leb, lt-leb, not-true, not-false}
+use borrow.Author.Tests.{ltb-true, ltb-false, lt-ltb, le-ltb}
 use Rattle.math.specs.Constants.{threeTenths}
 use Rattle.math.specs.Select.{absolute, negative, maximumNumber}
 use Rattle.math.specs.Sum.{whole}
 use Rattle.math.proofs.Rounded.{round-neg}
 use Rattle.math.proofs.Sums.{whole-value}
 use Rattle.math.proofs.Value.{sub-value}
-use Rattle.rects.specs.declared.Rect.{Rect}
-use Rattle.rects.specs.Rects.{widthOf}
-use Rattle.rects.specs.Steps.{Inside}
-use Rattle.box_sets.specs.Boxes.{similar, centreX, centreY, aligned, touching}
 use Rattle.rects.specs.Rects.{distance}
+use Rattle.box_sets.specs.Boxes.{similar}
 
 -- ---- the difference
 
@@ -138,36 +135,8 @@ pub found-similar : (a b : ℕ) {d m : ℕ} → a < 2 ^ 32 → b < 2 ^ 32 → d 
 found-similar a b A B p q =
     ap₂ (λ (x y : ℕ). le (whole x) (mul binary64 threeTenths (whole y))) p q ∙ sym (similar-whole a b (omega arith) (omega arith))
 
-similar-comm : (a b : ℕ) → a ≤ 2 ^ 53 → b ≤ 2 ^ 53 → similar a b ≡ similar b a
+pub similar-comm : (a b : ℕ) → a ≤ 2 ^ 53 → b ≤ 2 ^ 53 → similar a b ≡ similar b a
 similar-comm a b A B =
     similar-whole a b A B
     ∙ ap₂ (λ (x y : ℕ). le (whole (x - y)) (mul binary64 threeTenths (whole x))) (max-comm a b) (min-comm a b)
     ∙ sym (similar-whole b a B A)
-
-aligned-comm : (limit : ℕ) (a b : Rect) → aligned limit a b ≡ aligned limit b a
-aligned-comm limit a b =
-    rw (max-comm (centreX a) (centreX b), min-comm (centreX a) (centreX b), max-comm (centreY a) (centreY b), min-comm (centreY a) (centreY b))
-
-pub touching-comm : (limit : ℕ) {a b : Rect} → Inside 8192 8192 a → Inside 8192 8192 b → touching limit a b ≡ touching limit b a
-unfolding touching
-touching-comm limit {a} {b} ia ib =
-    ap₂ _&&_ (similar-comm (widthOf a) (widthOf b) (omega (arith, ia .right)) (omega (arith, ib .right))) (aligned-comm limit a b)
-
--- ---- what the tests of the code say
-
-module _ (limit : ℕ) (a b : Rect) {joined t : Bool} (j : joined ≡ false) (e : t ≡ aligned limit a b) where
-  pub not-aligned : not t ≡ true → false ≡ not joined && touching limit a b
-  unfolding touching
-  not-aligned h = sym (rw (j, ← e, not-true t h) (and-false (similar (widthOf a) (widthOf b))))
-
-  pub then-similar : {s : Bool} {x y : ℕ} → not t ≡ false → x ≡ widthOf a → y ≡ widthOf b → s ≡ similar x y → s ≡ not joined && touching limit a b
-  unfolding touching
-  then-similar {s} {x} {y} h p q k = k ∙ ap₂ similar p q ∙ sym (rw (j, ← e, not-false t h) (and-true (similar (widthOf a) (widthOf b))))
-
--- one subtraction that wraps tells whether two numbers are at most the limit apart
-pub near-is : (a b limit r : ℕ) → a < 2 ^ 32 → b < 2 ^ 32 → limit < 2 ^ 40 → r < 2 ^ 64 → (r + a) % 2 ^ 64 ≡ b + limit → leb r (2 * limit) ≡ leb (distance a b) limit
-near-is a b limit r A B L R e = go (leb (distance a b) limit) refl
-  where
-    go : (t : Bool) → leb (distance a b) limit ≡ t → leb r (2 * limit) ≡ t
-    go true f = let h = leb-true (distance a b) limit f in le-leb r (2 * limit) (omega arith)
-    go false f = let h = leb-false (distance a b) limit f in lt-leb r (2 * limit) (omega arith)

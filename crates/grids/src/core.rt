@@ -68,7 +68,7 @@ pub fn find(
         })
         (r .sets) (r .grids) ⌝ }
 {
-    let sets = box_sets::touch::connect(rects, limit, parents, members, ends, work);
+    let sets = box_sets::connect(rects, limit, parents, members, ends, work, keys);
     reading_order::reading::read_sets(rects, members, ends, sets, reading, parents, work, keys);
     let grids = minimum::choose(members, ends, sets, least, numbers);
     Counts { sets, grids }

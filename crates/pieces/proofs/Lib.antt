@@ -1,4 +1,3 @@
 -- Why pieces are joined rightly: laws that belong to no one function.
 pub mod Touching
-pub mod Arranged
 pub mod Rows

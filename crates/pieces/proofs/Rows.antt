@@ -32,10 +32,10 @@ module _ (pieces : List ℕ) (across gap : ℕ) {order keys : List ℕ} {k : ℕ
   pair-touching l o ll w =
       let a = rectAt pieces (getD order k 0) in
       let b = rectAt pieces (getD order l 0) in
-      let lj = S .known l ll in
-      let ka = S .keyed (getD order k 0) (S .known k first) in
+      let lj = S .sorted .known l ll in
+      let ka = S .keyed (getD order k 0) (S .sorted .known k first) in
       let kb = S .keyed (getD order l 0) lj in
-      let before : sweepKey a ≤ sweepKey b = omega (arith, S .ascends k l o ll, ka .value, kb .value) in
+      let before : sweepKey a ≤ sweepKey b = omega (arith, S .sorted .ascends k l o ll, ka .value, kb .value) in
       let within-reach : sweepKey b ≤ lastKey gap (horizontal a) a = omega (arith, kb .value, rw (H .direction) at (H .reaches)) in
       window-touching across gap a b (all (getD order l 0) lj) (H .narrow) (rw (H .direction) at (H .ends)) (kb .small) before within-reach
       ∙ rw (H .centred, H .direction)
@@ -45,7 +45,7 @@ module _ (pieces : List ℕ) (across gap : ℕ) {order keys : List ℕ} {k : ℕ
       → SweptTo pieces across gap order k (l + 1) q
   pair-tried {l} B o ll w J =
       let t = pair-touching l o ll w in
-      sweep-pair B (S .known k first) (S .known l ll) _ J (λ f. inl (t ∙ f))
+      sweep-pair B (S .sorted .known k first) (S .sorted .known l ll) _ J (λ f. inl (t ∙ f))
       (⊎-elim (λ f. inl (sym t ∙ f)) (λ f. inl (sym t ∙ touching-comm across gap (rectAt pieces (getD order k 0)) (rectAt pieces (getD order l 0)) ∙ f)))
 
   -- a piece out of reach, and all behind it
@@ -59,15 +59,15 @@ module _ (pieces : List ℕ) (across gap : ℕ) {order keys : List ℕ} {k : ℕ
       y = rectAt pieces (getD order b 0)
 
       late′ : lastKey gap (horizontal x) x < sweepKey y
-      late′ = omega (arith, S .keyed (getD order b 0) (S .known b lb) .value, rw (H .direction) at (H .reaches))
+      late′ = omega (arith, S .keyed (getD order b 0) (S .sorted .known b lb) .value, rw (H .direction) at (H .reaches))
 
   pub row-stops : {l : ℕ} {p : List ℕ} → SweptTo pieces across gap order k l p → l < count pieces → last < getD keys (getD order l 0) 0
       → SweptTo pieces across gap order (k + 1) (k + 2) p
-  row-stops {l} B ll late = sweep-row-in B (S .stands) (λ b o m lb t. out-of-reach b lb (later b m lb (eq-or-lt-of-le m)) t)
+  row-stops {l} B ll late = sweep-row-in B (S .sorted .stands) (λ b o m lb t. out-of-reach b lb (later b m lb (eq-or-lt-of-le m)) t)
     where
       later : (b : ℕ) → l ≤ b → b < count pieces → (l ≡ b) ⊎ (l < b) → last < getD keys (getD order b 0) 0
       later b m lb (inl e) = rw e at late
-      later b m lb (inr s) = omega (arith, S .ascends l b s lb)
+      later b m lb (inr s) = omega (arith, S .sorted .ascends l b s lb)
 
   pub row-ends : {l : ℕ} {p : List ℕ} → SweptTo pieces across gap order k l p → count pieces ≤ l → SweptTo pieces across gap order (k + 1) (k + 2) p
-  row-ends B h = sweep-row-in B (S .stands) (λ b o m lb t. absurd (omega arith))
+  row-ends B h = sweep-row-in B (S .sorted .stands) (λ b o m lb t. absurd (omega arith))

@@ -3,9 +3,10 @@ use Prim.Native.Nat.{ℕ, _+_, _^_, _≤_, _<_}
 use mathlib.Core.Path.{_≡_}
 use mathlib.Core.Bool.{Bool, cond}
 use mathlib.Core.List.{List}
-use lib.ListN.{length, getD}
+use lib.ListN.{getD}
 use Rattle.sets.specs.Closed.{Below}
 use Rattle.sets.specs.Steps.{Between, Swept}
+use Rattle.order.specs.ByKeys.{ByKeys}
 use Rattle.rects.specs.declared.Rect.{Rect}
 use Rattle.rects.specs.Rects.{count, rectAt}
 use Rattle.pieces.specs.Pieces.{horizontal, Touch}
@@ -50,21 +51,10 @@ pub record KeyOf (r : Rect) (k : ℕ) : Type 0 where
 abbrev pub Keyed : List ℕ → List ℕ → Type 0
 Keyed pieces keys = (i : ℕ) → i < count pieces → KeyOf (rectAt pieces i) (getD keys i 0)
 
--- The lists to sort in have room for the indexes below n, and these and their count fit 32 bits.
-pub record SweepRoom (n : ℕ) (os ws ks : List ℕ) : Type 0 where
-  pub small : n < 2 ^ 32
-  pub order : n ≤ length os
-  pub work : n ≤ length ws
-  pub keys : n ≤ length ks
-
 -- A list begins with the indexes of all pieces, in the order of their keys.
 pub record Sweep (pieces order keys : List ℕ) : Type 0 where
-  pub order-room : count pieces ≤ length order
-  pub keys-room : count pieces ≤ length keys
   pub keyed : Keyed pieces keys
-  pub known : (k : ℕ) → k < count pieces → getD order k 0 < count pieces
-  pub stands : (i : ℕ) → i < count pieces → (k : ℕ) × (k < count pieces) × (getD order k 0 ≡ i)
-  pub ascends : (k l : ℕ) → k < l → l < count pieces → getD keys (getD order k 0) 0 ≤ getD keys (getD order l 0) 0
+  pub sorted : ByKeys (count pieces) keys order
 
 -- The pairs of the order before the places k, l were tried: those that touch are joined, and what is joined hangs together by touching.
 abbrev pub SweptTo : List ℕ → ℕ → ℕ → List ℕ → ℕ → ℕ → List ℕ → Type 0

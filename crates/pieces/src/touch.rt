@@ -6,8 +6,9 @@ ghost use lib.ListN.{length, getD, drop};
 ghost use Rattle.rects.specs.Rects.{count, rectAt};
 ghost use Rattle.sets.specs.Closed.{Below};
 ghost use Rattle.sets.specs.Steps.{Joins, Joined, Parents, Room};
+ghost use Rattle.order.specs.ByKeys.{SortRoom};
 ghost use Rattle.pieces.specs.Pieces.{horizontal, within, Touch};
-ghost use Rattle.pieces.specs.Steps.{Ordered, AllOrdered, centreIn, startIn, endIn, offsetIn, lastKey, KeyOf, Keyed, Sweep, SweepRoom, SweptTo};
+ghost use Rattle.pieces.specs.Steps.{Ordered, AllOrdered, centreIn, startIn, endIn, offsetIn, lastKey, KeyOf, Keyed, Sweep, SweptTo};
 use rects::Rect;
 
 // At least as wide as high?
@@ -108,7 +109,7 @@ fn write_keys(pieces: &[u32], keys: &mut [u64])
 
 // The keys of the pieces, and the pieces in the order of their keys.
 fn arrange(pieces: &[u32], order: &mut [u32], work: &mut [u32], keys: &mut [u64])
-    requires { ⌜ AllOrdered (now pieces) × SweepRoom (count (now pieces)) (now order) (now work) (now keys) ⌝ }
+    requires { ⌜ AllOrdered (now pieces) × SortRoom (count (now pieces)) (now order) (now work) (now keys) ⌝ }
     ensures { λ _.
         ⌜ Sweep (now (pieces .entry)) (now (order .exit)) (now (keys .exit))
         × (drop (count (now (pieces .entry))) (now (order .exit)) ≡ drop (count (now (pieces .entry))) (now (order .entry))) ⌝ }
@@ -183,7 +184,7 @@ pub fn join_all(
     keys: &mut [u64],
 )
     requires { ⌜ Room (count (now pieces)) (now parents) × AllOrdered (now pieces)
-        × SweepRoom (count (now pieces)) (now order) (now work) (now keys) ⌝ }
+        × SortRoom (count (now pieces)) (now order) (now work) (now keys) ⌝ }
     ensures { λ _.
         ⌜ Joins (count (now (pieces .entry))) (Below (count (now (pieces .entry)))) (Touch (now (pieces .entry)) across gap) (now (parents .exit))
         × (drop (count (now (pieces .entry))) (now (order .exit)) ≡ drop (count (now (pieces .entry))) (now (order .entry))) ⌝ }

@@ -11,7 +11,7 @@ use native.Mathlib.Omega.{arith}
 use lib.Dec.{eqb}
 use lib.ListN.{getD, set, length-set}
 use lib.Seq.{getD-set-same, getD-set-other, drop-set-lt}
-use borrow.Author.Tests.{eq-eqb, ne-eqb, eqb-true}
+use borrow.Author.Tests.{eq-eqb, ne-eqb, eqb-true, eqb-false}
 use Rattle.sets.specs.Steps.{Parents, climb, root, SameRoots, merged, Joined}
 
 climb-same : (p : List ℕ) (k i : ℕ) → getD p i 0 ≡ i → climb p k i ≡ i
@@ -208,3 +208,27 @@ join-same {n} {p} {a} {b} P la lb e =
       roots = λ k l. sym (ap (λ (x : ℕ). merged x (root p b) (root p k)) same ∙ merged-same (root p b) (root p k));
       kept = refl;
     }
+
+-- and so whether they touch or not
+pub join-one-parent : {n : ℕ} {p : List ℕ} {a b : ℕ} (t : Bool) → Parents n p → a < n → b < n → getD p a 0 ≡ getD p b 0 → Joined n p a b t p
+join-one-parent true P la lb e = join-same P la lb e
+join-one-parent false P la lb e = join-none P
+
+-- what was one set stays one
+pub joined-keeps : {n : ℕ} {p q : List ℕ} {a b : ℕ} {t : Bool} → Joined n p a b t q → (i j : ℕ) → i < n → j < n → root p i ≡ root p j → root q i ≡ root q j
+joined-keeps {p = p} {a = a} {b} {t} J i j li lj e =
+    J .roots i li ∙ ap (λ (x : ℕ). cond t (merged (root p a) (root p b) x) x) e ∙ sym (J .roots j lj)
+
+merged-first : (x y : ℕ) → merged x y x ≡ min x y
+merged-first x y = go (eqb x (max x y)) refl
+  where
+    go : (t : Bool) → eqb x (max x y) ≡ t → cond t (min x y) x ≡ min x y
+    go true e = refl
+    go false e = let h = eqb-false x (max x y) e in omega arith
+
+-- two that were joined are one set
+pub joined-one : {n : ℕ} {p q : List ℕ} {a b : ℕ} → Joined n p a b true q → a < n → b < n → root q a ≡ root q b
+joined-one {p = p} {a = a} {b} J la lb =
+    let x = root p a in
+    let y = root p b in
+    J .roots a la ∙ merged-first x y ∙ min-comm x y ∙ sym (merged-first y x) ∙ merged-comm y x y ∙ sym (J .roots b lb)

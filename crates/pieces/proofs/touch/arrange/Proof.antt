@@ -1,9 +1,22 @@
 -- `touch::arrange` meets its contract: the keys are those of the pieces, and the part of them that counts is sorted.
+use mathlib.Core.Path.{_≡_}
+use mathlib.Core.List.{List, _++_}
+use Prim.Native.Nat.{ℕ, _-_, _≤_}
 use native.Mathlib.Omega.{arith}
+use lib.ListN.{length, take, drop}
 use borrow.Author.Needs.{needs}
-use Rattle.pieces.proofs.Arranged.{arranged}
+use Rattle.rects.specs.Rects.{count}
+use Rattle.order.specs.Order.{sortedIndexes}
+use Rattle.order.proofs.ByKeys.{rest-kept, sorted-front}
+use Rattle.pieces.specs.Steps.{Keyed, Sweep}
 use Rattle.pieces.proofs.touch.arrange.Statement.{statement}
 use Rattle.pieces.proofs.touch.arrange.Tie as tie
+
+arranged : (pieces keys order order′ : List ℕ) → Keyed pieces keys → count pieces ≤ length keys → count pieces ≤ length order → length order′ ≡ length order
+    → order′ ≡ sortedIndexes (take (count pieces - 0) keys) ++ drop (length (take (count pieces - 0) keys)) order
+    → Sweep pieces order′ keys × (drop (count pieces) order′ ≡ drop (count pieces) order)
+arranged pieces keys order order′ K room-k room-o long e =
+    (record { keyed = K; sorted = sorted-front (count pieces) keys order order′ room-k e room-o long }, rest-kept (count pieces) keys order order′ room-k e)
 
 write-keys-requires : tie.Need-write-keys-requires
 write-keys-requires c κs = search needs

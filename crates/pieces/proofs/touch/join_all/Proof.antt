@@ -30,7 +30,7 @@ turn {k = k} W l long B = let e : k + 2 ≡ k + 1 + 1 = omega arith in record { 
 
 ended : (pieces : List ℕ) (across gap : ℕ) {order keys q : List ℕ} {k : ℕ} → Sweep pieces order keys → SweptTo pieces across gap order k (k + 1) q → count pieces ≤ k
     → Joins (count pieces) (Below (count pieces)) (Touch pieces across gap) q
-ended pieces across gap S B h = between-all (sweep-end B h (S .stands)) (λ i j di dj t. inr (inl (inr t)))
+ended pieces across gap S B h = between-all (sweep-end B h (S .sorted .stands)) (λ i j di dj t. inr (inl (inr t)))
 
 abbrev Inv-loop : tie.InvT-loop
 Inv-loop pieces across gap parents₀ order work keys n k₀ parents k = Rows pieces across gap order parents₀ n parents k

@@ -1,21 +1,14 @@
 -- `touch::join_near` meets its contract: it joins, or there is nothing to change, since the two have one parent or the centres are apart.
 use mathlib.Core.Path.{_≡_, sym, ap, _∙_}
-use mathlib.Core.Bool.{Bool, true, false}
+use mathlib.Core.Bool.{Bool}
 use mathlib.Core.List.{List}
-use Prim.Native.Nat.{ℕ, _<_}
-use native.Mathlib.Omega.{arith}
+use Prim.Native.Nat.{ℕ}
 use borrow.Author.Needs.{needs}
-use lib.ListN.{getD}
-use Rattle.sets.specs.Steps.{Joined, Parents}
-use Rattle.sets.proofs.Roots.{join-none, join-same}
+use Rattle.sets.specs.Steps.{Joined}
+use Rattle.sets.proofs.Roots.{join-none, join-one-parent}
 use Rattle.pieces.specs.Pieces.{within}
 use Rattle.pieces.proofs.touch.join_near.Statement.{statement}
 use Rattle.pieces.proofs.touch.join_near.Tie as tie
-
--- two with one parent, whether they touch or not
-one-parent : {n : ℕ} {p : List ℕ} {i j : ℕ} (t : Bool) → Parents n p → i < n → j < n → getD p i 0 ≡ getD p j 0 → Joined n p i j t p
-one-parent true P li lj e = join-same P li lj e
-one-parent false P li lj e = join-none P
 
 -- what the test found of the centre that was read
 found : (reach a : ℕ) {b b′ : ℕ} {t u : Bool} → b ≡ b′ → t ≡ within reach a b → t ≡ u → within reach a b′ ≡ u
@@ -55,7 +48,7 @@ returns-2 : tie.Need-returns-2
 returns-2 c = decided (found (c .before .before .before .before .before .before .before .before .args .reach) (c .before .before .before .before .before .before .before .before .args .centre) (c .before .before .centre2-at .ensures .0) (c .before .near .ensures) (c .if2 .left)) (join-none (c .before .before .before .before .before .before .before .before .pre .0))
 
 returns-3 : tie.Need-returns-3
-returns-3 c = one-parent _ (c .before .before .before .before .before .pre .0) (c .before .before .before .before .before .pre .1) (c .before .before .before .before .before .pre .2) (c .if1 .left)
+returns-3 c = join-one-parent _ (c .before .before .before .before .before .pre .0) (c .before .before .before .before .before .pre .1) (c .before .before .before .before .before .pre .2) (c .if1 .left)
 
 pub join-near-spec : {M : Type 1} → statement M
 join-near-spec =

@@ -35,20 +35,20 @@ abbrev μ-loop : tie.MeasureT-loop
 μ-loop pieces across gap order keys parents₀ k n i direction centre reach last l₀ parents l = n - l
 
 mul-i : tie.Need-mul-i Inv-loop μ-loop
-mul-i c = scaled-fits (c .before .before .before .before .args .k) (length (c .before .before .before .before .args .order .now)) 4 (omega (arith, c .before .before .before .before .pre .0, c .before .before .before .before .pre .2 .order-room)) (c .before .before .before .before .good .1 .1 .1 .0 .1)
+mul-i c = scaled-fits (c .before .before .before .before .args .k) (length (c .before .before .before .before .args .order .now)) 4 (omega (arith, c .before .before .before .before .pre .0, c .before .before .before .before .pre .2 .sorted .order-room)) (c .before .before .before .before .good .1 .1 .1 .0 .1)
 
 shared-slice-read-i : tie.Need-shared-slice-read-i Inv-loop μ-loop
-shared-slice-read-i c = omega (arith, c .before .before .before .before .before .pre .0, c .before .before .before .before .before .pre .2 .order-room)
+shared-slice-read-i c = omega (arith, c .before .before .before .before .before .pre .0, c .before .before .before .before .before .pre .2 .sorted .order-room)
 
 cast-i : tie.Need-cast-i Inv-loop μ-loop
-cast-i c = omega (arith, c .before .before .before .before .before .pre .2 .known (c .before .before .before .before .before .args .k) (c .before .before .before .before .before .pre .0), c .before .before .before .before .before .good)
+cast-i c = omega (arith, c .before .before .before .before .before .pre .2 .sorted .known (c .before .before .before .before .before .args .k) (c .before .before .before .before .before .pre .0), c .before .before .before .before .before .good)
 
 rect-at-requires : tie.Need-rect-at-requires Inv-loop μ-loop
-rect-at-requires c κs = has-numbers (length (c .before .before .before .before .before .args .pieces .now)) (getD (c .before .before .before .before .before .args .order .now) (c .before .before .before .before .before .args .k) 0) (c .before .before .before .before .before .pre .2 .known (c .before .before .before .before .before .args .k) (c .before .before .before .before .before .pre .0))
+rect-at-requires c κs = has-numbers (length (c .before .before .before .before .before .args .pieces .now)) (getD (c .before .before .before .before .before .args .order .now) (c .before .before .before .before .before .args .k) 0) (c .before .before .before .before .before .pre .2 .sorted .known (c .before .before .before .before .before .args .k) (c .before .before .before .before .before .pre .0))
 
 is-horizontal-requires : tie.Need-is-horizontal-requires Inv-loop μ-loop
 is-horizontal-requires c κs =
-    read (c .before .before .before .before .before .before .pre .1 (getD (c .before .before .before .before .before .before .args .order .now) (c .before .before .before .before .before .before .args .k) 0) (c .before .before .before .before .before .before .pre .2 .known (c .before .before .before .before .before .before .args .k) (c .before .before .before .before .before .before .pre .0))) (c .rect-at .ensures)
+    read (c .before .before .before .before .before .before .pre .1 (getD (c .before .before .before .before .before .before .args .order .now) (c .before .before .before .before .before .before .args .k) 0) (c .before .before .before .before .before .before .pre .2 .sorted .known (c .before .before .before .before .before .before .args .k) (c .before .before .before .before .before .before .pre .0))) (c .rect-at .ensures)
 
 centre2-requires : tie.Need-centre2-requires Inv-loop μ-loop
 centre2-requires c κs = tt
@@ -66,21 +66,21 @@ loop-holds : tie.Need-loop-holds Inv-loop μ-loop
 loop-holds c = record { later = omega arith; up-to = omega (arith, c .before .before .before .before .before .before .before .before .before .pre .0); long = refl; swept = c .before .before .before .before .before .before .before .before .before .pre .3 }
 
 mul-j : tie.Need-mul-j Inv-loop μ-loop
-mul-j c = scaled-fits (c .before .loop .l) (length (c .before .before .before .before .before .before .before .before .before .before .before .args .order .now)) 4 (omega (arith, c .loop-test .taken, c .before .before .before .before .before .before .before .before .before .before .before .pre .2 .order-room)) (c .before .before .before .before .before .before .before .before .before .before .before .good .1 .1 .1 .0 .1)
+mul-j c = scaled-fits (c .before .loop .l) (length (c .before .before .before .before .before .before .before .before .before .before .before .args .order .now)) 4 (omega (arith, c .loop-test .taken, c .before .before .before .before .before .before .before .before .before .before .before .pre .2 .sorted .order-room)) (c .before .before .before .before .before .before .before .before .before .before .before .good .1 .1 .1 .0 .1)
 
 shared-slice-read-j : tie.Need-shared-slice-read-j Inv-loop μ-loop
-shared-slice-read-j c = omega (arith, c .before .loop-test .taken, c .before .before .before .before .before .before .before .before .before .before .before .before .pre .2 .order-room)
+shared-slice-read-j c = omega (arith, c .before .loop-test .taken, c .before .before .before .before .before .before .before .before .before .before .before .before .pre .2 .sorted .order-room)
 
 cast-j : tie.Need-cast-j Inv-loop μ-loop
-cast-j c = omega (arith, c .before .before .before .before .before .before .before .before .before .before .before .before .pre .2 .known (c .before .before .loop .l) (c .before .loop-test .taken), c .before .before .before .before .before .before .before .before .before .before .before .before .good)
+cast-j c = omega (arith, c .before .before .before .before .before .before .before .before .before .before .before .before .pre .2 .sorted .known (c .before .before .loop .l) (c .before .loop-test .taken), c .before .before .before .before .before .before .before .before .before .before .before .before .good)
 
 mul-if1 : tie.Need-mul-if1 Inv-loop μ-loop
 mul-if1 c =
     scaled-fits (getD (c .before .before .before .before .before .before .before .before .before .before .before .before .args .order .now) (c .before .before .loop .l) 0) (length (c .before .before .before .before .before .before .before .before .before .before .before .before .args .keys .now)) 8
-    (omega (arith, c .before .before .before .before .before .before .before .before .before .before .before .before .pre .2 .known (c .before .before .loop .l) (c .before .loop-test .taken), c .before .before .before .before .before .before .before .before .before .before .before .before .pre .2 .keys-room)) (c .before .before .before .before .before .before .before .before .before .before .before .before .good .1 .1 .1 .1 .0 .1)
+    (omega (arith, c .before .before .before .before .before .before .before .before .before .before .before .before .pre .2 .sorted .known (c .before .before .loop .l) (c .before .loop-test .taken), c .before .before .before .before .before .before .before .before .before .before .before .before .pre .2 .sorted .keys-room)) (c .before .before .before .before .before .before .before .before .before .before .before .before .good .1 .1 .1 .1 .0 .1)
 
 shared-slice-read-if1 : tie.Need-shared-slice-read-if1 Inv-loop μ-loop
-shared-slice-read-if1 c = omega (arith, c .before .before .before .before .before .before .before .before .before .before .before .before .before .pre .2 .known (c .before .before .before .loop .l) (c .before .before .loop-test .taken), c .before .before .before .before .before .before .before .before .before .before .before .before .before .pre .2 .keys-room)
+shared-slice-read-if1 c = omega (arith, c .before .before .before .before .before .before .before .before .before .before .before .before .before .pre .2 .sorted .known (c .before .before .before .loop .l) (c .before .before .loop-test .taken), c .before .before .before .before .before .before .before .before .before .before .before .before .before .pre .2 .sorted .keys-room)
 
 same-length : tie.Need-same-length Inv-loop μ-loop
 same-length c = c .before .before .before .before .loop .inv .long
@@ -94,7 +94,7 @@ returns c =
 
 join-near-requires : tie.Need-join-near-requires Inv-loop μ-loop
 join-near-requires c κs =
-    (c .before .before .before .before .before .loop .inv .swept .parents, c .before .before .before .before .before .before .before .before .before .before .before .before .before .before .before .pre .2 .known (c .before .before .before .before .before .before .before .before .before .before .before .before .before .before .before .args .k) (c .before .before .before .before .before .before .before .before .before .before .before .before .before .before .before .pre .0), c .before .before .before .before .before .before .before .before .before .before .before .before .before .before .before .pre .2 .known (c .before .before .before .before .before .loop .l) (c .before .before .before .before .loop-test .taken), c .before .before .before .before .before .before .before .centre2 .ensures .1, omega (arith, c .before .before .before .before .before .before .before .before .before .before .before .before .before .before .before .fits .across))
+    (c .before .before .before .before .before .loop .inv .swept .parents, c .before .before .before .before .before .before .before .before .before .before .before .before .before .before .before .pre .2 .sorted .known (c .before .before .before .before .before .before .before .before .before .before .before .before .before .before .before .args .k) (c .before .before .before .before .before .before .before .before .before .before .before .before .before .before .before .pre .0), c .before .before .before .before .before .before .before .before .before .before .before .before .before .before .before .pre .2 .sorted .known (c .before .before .before .before .before .loop .l) (c .before .before .before .before .loop-test .taken), c .before .before .before .before .before .before .before .centre2 .ensures .1, omega (arith, c .before .before .before .before .before .before .before .before .before .before .before .before .before .before .before .fits .across))
 
 add-l-2 : tie.Need-add-l-2 Inv-loop μ-loop
 add-l-2 c = omega (arith, c .before .before .before .before .before .before .before .loop-test .taken, c .before .before .before .before .before .before .before .before .before .before .before .before .before .before .before .before .before .before .good)

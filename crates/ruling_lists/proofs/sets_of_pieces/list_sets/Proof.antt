@@ -1,9 +1,8 @@
 -- `sets_of_pieces::list_sets` meets its contract: all pairs are joined, and the sets of equal root are the closed sets.
-use mathlib.Core.Path.{_≡_, sym, ap, subst, _∙_}
-use mathlib.Core.List.{List, _++_}
+use mathlib.Core.Path.{_≡_, ap, subst, _∙_}
+use mathlib.Core.List.{List}
 use Prim.Native.Nat.{ℕ, _≤_}
 use native.Mathlib.Nat.{le-of-eq}
-use borrow.Author.Needs.{needs}
 use lib.ListN.{length, drop}
 use Rattle.lists.specs.Lists.{concat, written}
 use Rattle.rects.specs.Rects.{count}
@@ -12,15 +11,12 @@ use Rattle.sets.specs.Steps.{Joins, Listing, root, classes}
 use Rattle.sets.specs.Listing.{endsFrom}
 use Rattle.sets.proofs.Listings.{joins-closedSets}
 use Rattle.sets.proofs.Sizes.{classes-all, classes-count, classes-total}
+use Rattle.order.proofs.ByKeys.{written-over}
 use Rattle.pieces.specs.Pieces.{touch, Touch}
 use Rattle.ruling_lists.specs.Rulings.{pieceSets}
 use Rattle.ruling_lists.specs.Steps.{SetsListed}
 use Rattle.ruling_lists.proofs.sets_of_pieces.list_sets.Statement.{statement}
 use Rattle.ruling_lists.proofs.sets_of_pieces.list_sets.Tie as tie
-
--- a list is written over its first places, whatever stood there
-over : (n : ℕ) (xs ls os : List ℕ) → length xs ≡ n → drop n os ≡ drop n ls → written xs os ≡ written xs ls
-over n xs ls os e d = rw e (ap (λ (t : List ℕ). xs ++ t) d)
 
 -- the sets are listed over the pieces in their order, which is kept past them
 found : (pieces : List ℕ) (across gap : ℕ) {q q′ os ls le ls′ le′ : List ℕ} {r : ℕ} → Joins (count pieces) (Below (count pieces)) (Touch pieces across gap) q
@@ -34,7 +30,7 @@ found pieces across gap {q} {os = os} {ls} {le} J kept L =
       count = L .count ∙ ap length same;
       strung =
           record {
-            members = L .members ∙ over n (concat (classes n (root q))) ls os all kept ∙ ap (λ ss. written (concat ss) ls) same;
+            members = L .members ∙ written-over n (concat (classes n (root q))) ls os all kept ∙ ap (λ ss. written (concat ss) ls) same;
             ends = L .ends ∙ ap (λ ss. written (endsFrom 0 ss) le) same;
           };
       within = subst (λ (ss : List (List ℕ)). length (concat ss) ≤ n) same (le-of-eq all);
