@@ -2,5 +2,6 @@
 pub mod Rulings
 pub mod Collecting
 pub mod Joining
+pub mod Searching
 pub mod Crossing
 pub mod Bound

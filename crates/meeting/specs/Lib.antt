@@ -2,3 +2,4 @@
 pub mod Segments
 pub mod Meeting
 pub mod Steps
+pub mod Ends

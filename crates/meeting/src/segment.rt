@@ -1,7 +1,7 @@
 // A ruling as other rulings meet it.
 ghost use mathlib.Core.Path.{_≡_};
 ghost use mathlib.Core.Bool.{true, false};
-ghost use Prim.Native.Nat.{_+_, _<_, _^_};
+ghost use Prim.Native.Nat.{_+_, _-_, _<_, _^_};
 ghost use lib.ListN.{length};
 ghost use Rattle.meeting.specs.Segments.{segmentOf, rulingAt, opposite, spanHolds, touches, joinsEnd};
 ghost use Rattle.rects.specs.Rects.{distance};
@@ -68,6 +68,16 @@ pub fn touches(h: Segment, v: Segment, join: u64) -> bool
     ensures { λ r. ⌜ r ≡ touches join h v ⌝ }
 {
     span_holds(h, v.centre2, join) & span_holds(v, h.centre2, join)
+}
+
+// The difference, and 0 where there is none.
+pub fn saturating_sub(a: u64, b: u64) -> u64
+    ensures { λ r. ⌜ r ≡ a - b ⌝ }
+{
+    if a < b {
+        return 0;
+    }
+    a - b
 }
 
 fn distance(a: u64, b: u64) -> u64

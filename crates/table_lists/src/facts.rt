@@ -105,7 +105,7 @@ pub fn bound(
     }
 }
 
-// Writes the number of rulings and the joined share of each table.
+// Writes the number of rulings and the joined share of each table. The last three lists are lent to sort in, with a place a ruling each.
 pub fn measure(
     rects: &[u32],
     directions: &[u32],
@@ -118,10 +118,14 @@ pub fn measure(
     tables: usize,
     rulings: &mut [u32],
     shares: &mut [f64],
+    order: &mut [u32],
+    work: &mut [u32],
+    keys: &mut [u64],
 )
     requires { ⌜ (join < 2 ^ 32) × Given (now rects) (now directions) (now chosen)
         × SetsIn (length (now chosen)) (membersOf (now members) (now ends) count) count × Numbers (now numbers) tables count ⌝ }
     requires { ⌜ (tables ≤ length (now rulings)) × (tables ≤ length (now shares)) ⌝ }
+    requires { ⌜ (length (now chosen) ≤ length (now order)) × (length (now chosen) ≤ length (now work)) × (length (now chosen) ≤ length (now keys)) ⌝ }
     ensures { λ _. ⌜ Measured join (rulingAt (now (rects .entry)) (now (directions .entry)) (now (chosen .entry)))
         (membersOf (now (members .entry)) (now (ends .entry)) count) (take tables (now (numbers .entry)))
         (now (rulings .entry)) (now (shares .entry)) (now (rulings .exit)) (now (shares .exit)) ⌝ }
@@ -130,7 +134,7 @@ pub fn measure(
     while t < tables {
         let set = sets::members_of(members, ends, count, numbers[t] as usize);
         rulings[t] = set.len() as u32;
-        shares[t] = ends::share(rects, directions, chosen, set, join);
+        shares[t] = ends::share(rects, directions, chosen, set, join, order, work, keys);
         t += 1;
     }
 }

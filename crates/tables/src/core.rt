@@ -10,7 +10,7 @@ use meeting::connect;
 use shapes::limits::Limits;
 use table_lists::facts;
 
-// Writes the smallest rectangle, the number of rulings and the joined share of each table.
+// Writes the smallest rectangle, the number of rulings and the joined share of each table. The last three lists are lent to sort in.
 fn describe(
     rects: &[u32],
     directions: &[u32],
@@ -24,10 +24,14 @@ fn describe(
     bounds: &mut [u32],
     rulings: &mut [u32],
     shares: &mut [f64],
+    order: &mut [u32],
+    work: &mut [u32],
+    keys: &mut [u64],
 )
     requires { ⌜ (join < 2 ^ 32) × Given (now rects) (now directions) (now chosen)
         × SetsIn (length (now chosen)) (membersOf (now members) (now ends) count) count × Numbers (now numbers) tables count ⌝ }
     requires { ⌜ (4 * tables ≤ length (now bounds)) × (tables ≤ length (now rulings)) × (tables ≤ length (now shares)) ⌝ }
+    requires { ⌜ (length (now chosen) ≤ length (now order)) × (length (now chosen) ≤ length (now work)) × (length (now chosen) ≤ length (now keys)) ⌝ }
     ensures { λ _. ⌜ FactsWritten join (now (rects .entry)) (now (directions .entry)) (now (chosen .entry))
         (membersOf (now (members .entry)) (now (ends .entry)) count) (take tables (now (numbers .entry)))
         (now (bounds .entry)) (now (rulings .entry)) (now (shares .entry)) (now (bounds .exit)) (now (rulings .exit)) (now (shares .exit)) ⌝ }
@@ -55,6 +59,9 @@ fn describe(
         tables,
         rulings,
         shares,
+        order,
+        work,
+        keys,
     );
 }
 
@@ -169,6 +176,9 @@ pub fn find(
         bounds,
         rulings,
         shares,
+        parents,
+        work,
+        keys,
     );
     Counts {
         sets,

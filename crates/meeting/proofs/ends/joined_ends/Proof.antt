@@ -46,40 +46,40 @@ module _ (join : ℕ) (s : ℕ → Segment) (set : List ℕ) where
   few i e = omega (arith, one-le (starts i), one-le (stops i))
 
 abbrev Inv-loop : tie.InvT-loop
-Inv-loop rects directions chosen set join joined₀ k₀ joined k = Counted join (rulingAt rects directions chosen) set joined k
+Inv-loop rects directions chosen set keys order join joined₀ k₀ joined k = Counted join (rulingAt rects directions chosen) set joined k
 
 abbrev μ-loop : tie.MeasureT-loop
-μ-loop rects directions chosen set join joined₀ k₀ joined k = length set - k
+μ-loop rects directions chosen set keys order join joined₀ k₀ joined k = length set - k
 
 loop-holds : tie.Need-loop-holds Inv-loop μ-loop
 loop-holds c =
-    let start = c .before .before .before .before in
+    let start = c .before .before .before .before .before .before in
     begun (start .args .join) (rulingAt (start .args .rects .now) (start .args .directions .now) (start .args .chosen .now)) (start .args .set .now)
 
 mul-joined-of : tie.Need-mul-joined-of Inv-loop μ-loop
 mul-joined-of c =
-    let start = c .before .before .before .before .before .before in
+    let start = c .before .before .before .before .before .before .before .before in
     scaled-fits (c .before .loop .k) (length (start .args .set .now)) 4 (c .loop-test .taken) (start .good .1 .1 .1 .0 .1)
 
 shared-slice-read-joined-of : tie.Need-shared-slice-read-joined-of Inv-loop μ-loop
 shared-slice-read-joined-of c = c .before .loop-test .taken
 
 cast-joined-of : tie.Need-cast-joined-of Inv-loop μ-loop
-cast-joined-of c = omega (arith, c .shared-slice-known5 .given (c .before .before .loop .k))
+cast-joined-of c = omega (arith, c .shared-slice-known7 .given (c .before .before .loop .k))
 
 joined-of-requires : tie.Need-joined-of-requires Inv-loop μ-loop
 joined-of-requires c κs =
-    let start = c .before .before .before .before .before .before .before in
-    (start .pre .0, start .pre .1, start .pre .2, member-within (start .args .set .now) (start .pre .2) (c .before .before .loop .k) (c .before .loop-test .taken))
+    let start = c .before .before .before .before .before .before .before .before .before in
+    (start .pre .0, start .pre .1, start .pre .2, start .pre .3, member-within (start .args .set .now) (start .pre .2) (c .before .before .loop .k) (c .before .loop-test .taken))
 
 add-joined : tie.Need-add-joined Inv-loop μ-loop
 add-joined c =
-    let start = c .before .before .before .before .before .before .before .before in
+    let start = c .before .before .before .before .before .before .before .before .before .before in
     omega (arith, c .before .before .before .loop .inv .low, c .before .before .loop-test .taken, start .pre .2 .short, start .pre .1 .few, few (start .args .join) (rulingAt (start .args .rects .now) (start .args .directions .now) (start .args .chosen .now)) (start .args .set .now) (getD (start .args .set .now) (c .before .before .before .loop .k) 0) (c .joined-of .ensures))
 
 add-k : tie.Need-add-k Inv-loop μ-loop
 add-k c =
-    let start = c .before .before .before .before .before .before .before .before in
+    let start = c .before .before .before .before .before .before .before .before .before .before in
     omega (arith, c .before .before .loop-test .taken, start .pre .2 .short, start .pre .1 .few)
 
 loop-less : tie.Need-loop-less Inv-loop μ-loop
@@ -87,12 +87,12 @@ loop-less c = omega (arith, c .before .before .loop-test .taken)
 
 loop-again : tie.Need-loop-again Inv-loop μ-loop
 loop-again c =
-    let start = c .before .before .before .before .before .before .before .before in
+    let start = c .before .before .before .before .before .before .before .before .before .before in
     turn (start .args .join) (rulingAt (start .args .rects .now) (start .args .directions .now) (start .args .chosen .now)) (start .args .set .now) (c .before .before .before .loop .inv) (c .before .before .loop-test .taken) (c .joined-of .ensures)
 
 returns : tie.Need-returns Inv-loop μ-loop
 returns c =
-    let start = c .before .before .before .before .before .before in
+    let start = c .before .before .before .before .before .before .before .before in
     done (start .args .join) (rulingAt (start .args .rects .now) (start .args .directions .now) (start .args .chosen .now)) (start .args .set .now) (c .before .loop .inv) (c .loop-test .left)
 
 pub joined-ends-spec : {M : Type 1} → statement M

@@ -24,21 +24,19 @@ module _ (join : ℕ) (s : ℕ → Segment) (set : List ℕ) (i : ℕ) where
 ruling-at-requires : tie.Need-ruling-at-requires
 ruling-at-requires c κs = search needs
 
-joined-from-front-requires : tie.Need-joined-from-front-requires
-joined-from-front-requires c κs = search needs
+joined-requires : tie.Need-joined-requires
+joined-requires c κs = search needs
 
-joined-from-back-requires : tie.Need-joined-from-back-requires
-joined-from-back-requires c κs = search needs
+joined-requires-2 : tie.Need-joined-requires-2
+joined-requires-2 c κs = search needs
 
 both-requires : tie.Need-both-requires
 both-requires c κs = search needs
 
 returns : tie.Need-returns
 returns c =
-    let start = c .before .before .before .before .before .before .before .before in
-    counted (start .args .join) (rulingAt (start .args .rects .now) (start .args .directions .now) (start .args .chosen .now)) (start .args .set .now) (start .args .i) (c .before .before .before .ruling-at .ensures) (c .before .before .joined-from-front .ensures) (c .before .joined-from-back .ensures) (c .both .ensures)
+    let start = c .before .before .before .before .before .before .before .before .before .before in
+    counted (start .args .join) (rulingAt (start .args .rects .now) (start .args .directions .now) (start .args .chosen .now)) (start .args .set .now) (start .args .i) (c .before .before .before .ruling-at .ensures) (c .before .before .joined .ensures) (c .before .joined2 .ensures) (c .both .ensures)
 
 pub joined-of-spec : {M : Type 1} → statement M
-joined-of-spec =
-    tie.close
-    (tie.spec ruling-at-requires joined-from-front-requires joined-from-back-requires both-requires returns)
+joined-of-spec = tie.close (tie.spec ruling-at-requires joined-requires joined-requires-2 both-requires returns)

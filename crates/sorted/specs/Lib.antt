@@ -1,0 +1,2 @@
+-- What the contracts of `sorted` say.
+pub mod Ordered
