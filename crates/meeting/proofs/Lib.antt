@@ -4,4 +4,5 @@ pub mod Collecting
 pub mod Joining
 pub mod Searching
 pub mod Crossing
+pub mod Spans
 pub mod Bound

@@ -2,4 +2,5 @@
 pub mod Segments
 pub mod Meeting
 pub mod Steps
+pub mod Crossings
 pub mod Ends

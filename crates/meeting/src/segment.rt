@@ -44,18 +44,18 @@ pub fn ruling_at(rects: &[u32], directions: &[u32], chosen: &[u32], i: usize) ->
     segment_of(rects::rect_at(rects, place), directions[place])
 }
 
-// The same for a vertical ruling, whose direction need not be read.
-pub fn vertical_at(rects: &[u32], directions: &[u32], chosen: &[u32], i: usize) -> Segment
+// The same for a horizontal ruling, whose direction need not be read.
+pub fn horizontal_at(rects: &[u32], directions: &[u32], chosen: &[u32], i: usize) -> Segment
     requires { ⌜ Given (now rects) (now directions) (now chosen) × (i < length (now chosen))
-        × (rulingAt (now rects) (now directions) (now chosen) i .horizontal ≡ false) ⌝ }
+        × (rulingAt (now rects) (now directions) (now chosen) i .horizontal ≡ true) ⌝ }
     ensures { λ a. ⌜ a ≡ rulingAt (now (rects .entry)) (now (directions .entry)) (now (chosen .entry)) i ⌝ }
 {
     let place = chosen[i] as usize;
-    segment_of(rects::rect_at(rects, place), 1)
+    segment_of(rects::rect_at(rects, place), 0)
 }
 
 // Does a doubled place lie within twice the span, widened by the limit?
-fn span_holds(a: Segment, c: u32, join: u64) -> bool
+pub fn span_holds(a: Segment, c: u32, join: u64) -> bool
     requires { ⌜ join < 2 ^ 32 ⌝ }
     ensures { λ r. ⌜ r ≡ spanHolds join a c ⌝ }
 {

@@ -144,6 +144,7 @@ pub fn find(
         limits.join,
         parents,
         work,
+        keys,
         members,
         ends,
     );

@@ -9,7 +9,7 @@ use Rattle.sets.specs.Closed.{Below}
 use Rattle.sets.specs.Steps.{Joins, Room}
 use Rattle.meeting.specs.declared.segment.Segment.{Segment}
 use Rattle.meeting.specs.Segments.{rulingAt}
-use Rattle.meeting.specs.Steps.{Tried}
+use Rattle.meeting.specs.Crossings.{Tried}
 use Rattle.meeting.proofs.Crossing.{none-tried, all-tried}
 use Rattle.meeting.proofs.connect.join_all.Statement.{statement}
 use Rattle.meeting.proofs.connect.join_all.Tie as tie
@@ -27,41 +27,41 @@ module _ (join : ℕ) (s : ℕ → Segment) where
   turn W l long J = record { up-to = omega arith; long = long ∙ W .long; seen = J }
 
 abbrev Inv-loop : tie.InvT-loop
-Inv-loop rects directions chosen verticals join parents₀ n i₀ parents i = Rows join (rulingAt rects directions chosen) n parents₀ parents i
+Inv-loop rects directions chosen keys order join parents₀ n i₀ parents i = Rows join (rulingAt rects directions chosen) n parents₀ parents i
 
 abbrev μ-loop : tie.MeasureT-loop
-μ-loop rects directions chosen verticals join parents₀ n i₀ parents i = n - i
+μ-loop rects directions chosen keys order join parents₀ n i₀ parents i = n - i
 
 begin-requires : tie.Need-begin-requires Inv-loop μ-loop
-begin-requires c κs = c .before .before .before .before .before .before .pre .3
+begin-requires c κs = c .before .before .before .before .before .before .before .pre .3
 
 loop-holds : tie.Need-loop-holds Inv-loop μ-loop
 loop-holds c =
-    let start = c .before .before .before .before .before .before .before .before .before in
+    let start = c .before .before .before .before .before .before .before .before .before .before in
     begun (start .args .join) (rulingAt (start .args .rects .now) (start .args .directions .now) (start .args .chosen .now)) (start .pre .3) (c .before .before .begin .ensures)
 
 join-row-requires : tie.Need-join-row-requires Inv-loop μ-loop
 join-row-requires c κs =
-    let start = c .before .before .before .before .before .before .before .before .before .before .before .before in
+    let start = c .before .before .before .before .before .before .before .before .before .before .before .before .before in
     ((start .pre .0, start .pre .1, start .pre .2, c .before .loop-test .taken), c .before .before .loop .inv .seen)
 
 add-i : tie.Need-add-i Inv-loop μ-loop
-add-i c = omega (arith, c .before .before .before .before .loop-test .taken, c .before .before .before .before .before .before .before .before .before .before .before .before .before .before .before .pre .1 .few)
+add-i c = omega (arith, c .before .before .before .before .loop-test .taken, c .before .before .before .before .before .before .before .before .before .before .before .before .before .before .before .before .pre .1 .few)
 
 loop-less : tie.Need-loop-less Inv-loop μ-loop
 loop-less c = omega (arith, c .before .before .before .before .loop-test .taken)
 
 loop-again : tie.Need-loop-again Inv-loop μ-loop
 loop-again c =
-    let start = c .before .before .before .before .before .before .before .before .before .before .before .before .before .before .before in
-    turn (start .args .join) (rulingAt (start .args .rects .now) (start .args .directions .now) (start .args .chosen .now)) (c .before .before .before .before .before .loop .inv) (c .before .before .before .before .loop-test .taken) (c .before .before .join-row .kept .1 .1 .1 .1 .1 .0) (c .before .before .join-row .ensures)
+    let start = c .before .before .before .before .before .before .before .before .before .before .before .before .before .before .before .before in
+    turn (start .args .join) (rulingAt (start .args .rects .now) (start .args .directions .now) (start .args .chosen .now)) (c .before .before .before .before .before .loop .inv) (c .before .before .before .before .loop-test .taken) (c .before .before .join-row .kept .1 .1 .1 .1 .1 .1 .0) (c .before .before .join-row .ensures)
 
 same-length : tie.Need-same-length Inv-loop μ-loop
 same-length c = c .before .loop .inv .long ∙ c .before .before .before .before .begin .kept .0
 
 returns : tie.Need-returns Inv-loop μ-loop
 returns c =
-    let start = c .before .before .before .before .before .before .before .before .before .before .before in
+    let start = c .before .before .before .before .before .before .before .before .before .before .before .before in
     all-tried (start .args .join) (rulingAt (start .args .rects .now) (start .args .directions .now) (start .args .chosen .now)) (length (start .args .chosen .now)) (c .before .loop .inv .seen) (c .loop-test .left)
 
 pub join-all-spec : {M : Type 1} → statement M

@@ -1,4 +1,4 @@
--- `segment::vertical_at` meets its contract: any direction but 0 is vertical.
+-- `segment::horizontal_at` meets its contract: only direction 0 is horizontal.
 use mathlib.Core.Path.{_≡_, refl, sym, ap, _∙_}
 use mathlib.Core.Bool.{Bool, true, false, cond, false≢true}
 use Prim.Native.Nat.{ℕ, _+_}
@@ -11,12 +11,12 @@ use Rattle.meeting.specs.declared.segment.Segment.{Segment}
 use Rattle.meeting.specs.Segments.{segmentOf}
 use Rattle.meeting.proofs.Rulings.{sums-fit}
 use borrow.Author.Needs.{needs}
-use Rattle.meeting.proofs.segment.vertical_at.Statement.{statement}
-use Rattle.meeting.proofs.segment.vertical_at.Tie as tie
+use Rattle.meeting.proofs.segment.horizontal_at.Statement.{statement}
+use Rattle.meeting.proofs.segment.horizontal_at.Tie as tie
 
-standing : (r : Rect) (d : ℕ) → segmentOf r d .horizontal ≡ false → segmentOf r 1 ≡ segmentOf r d
+horizontal-same : (r : Rect) (d : ℕ) → segmentOf r d .horizontal ≡ true → segmentOf r 0 ≡ segmentOf r d
 unfolding segmentOf
-standing r d e = go (eqb d 0) e
+horizontal-same r d e = go (eqb d 0) e
   where
     lying : Segment
     lying = record { horizontal = true; start = r .x0; end = r .x1; centre2 = r .y0 + r .y1 }
@@ -24,13 +24,13 @@ standing r d e = go (eqb d 0) e
     upright : Segment
     upright = record { horizontal = false; start = r .y0; end = r .y1; centre2 = r .x0 + r .x1 }
 
-    go : (t : Bool) → (cond t lying upright) .horizontal ≡ false → upright ≡ cond t lying upright
-    go true e = absurd (false≢true (sym e))
-    go false e = refl
+    go : (t : Bool) → (cond t lying upright) .horizontal ≡ true → lying ≡ cond t lying upright
+    go true e = refl
+    go false e = absurd (false≢true e)
 
-same : {a : Segment} {r : Rect} (rects : _) (k d : ℕ) → segmentOf (rectAt rects k) d .horizontal ≡ false → a ≡ segmentOf r 1 → r ≡ rectAt rects k
+same : {a : Segment} {r : Rect} (rects : _) (k d : ℕ) → segmentOf (rectAt rects k) d .horizontal ≡ true → a ≡ segmentOf r 0 → r ≡ rectAt rects k
     → a ≡ segmentOf (rectAt rects k) d
-same rects k d e f g = f ∙ ap (λ (q : Rect). segmentOf q 1) g ∙ standing (rectAt rects k) d e
+same rects k d e f g = f ∙ ap (λ (q : Rect). segmentOf q 0) g ∙ horizontal-same (rectAt rects k) d e
 
 mul-place : tie.Need-mul-place
 mul-place c = search needs
@@ -56,7 +56,7 @@ returns c =
     let start = c .before .before .before .before .before .before in
     same (start .args .rects .now) (getD (start .args .chosen .now) (start .args .i) 0) (getD (start .args .directions .now) (getD (start .args .chosen .now) (start .args .i) 0) 0) (start .pre .2) (c .segment-of .ensures) (c .before .rect-at .ensures)
 
-pub vertical-at-spec : {M : Type 1} → statement M
-vertical-at-spec =
+pub horizontal-at-spec : {M : Type 1} → statement M
+horizontal-at-spec =
     tie.close
     (tie.spec mul-place shared-slice-read-place cast-place rect-at-requires segment-of-requires returns)
