@@ -2,5 +2,3 @@
 pub mod Segments
 pub mod Meeting
 pub mod Steps
-pub mod Crossings
-pub mod Ends

@@ -1,5 +1,3 @@
-// What rulings are to each other: which touch, the closed sets that they make, and which ends are joined.
-pub mod connect;
-pub mod ends;
+// What two rulings are to each other: whether they touch, and whether one joins an end of the other.
 pub mod listing;
 pub mod segment;

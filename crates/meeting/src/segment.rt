@@ -1,9 +1,9 @@
 // A ruling as other rulings meet it.
 ghost use mathlib.Core.Path.{_≡_};
-ghost use mathlib.Core.Bool.{true, false};
+ghost use mathlib.Core.Bool.{true};
 ghost use Prim.Native.Nat.{_+_, _-_, _<_, _^_};
 ghost use lib.ListN.{length};
-ghost use Rattle.meeting.specs.Segments.{segmentOf, rulingAt, opposite, spanHolds, touches, joinsEnd};
+ghost use Rattle.meeting.specs.Segments.{segmentOf, rulingAt, opposite, spanHolds, joinsEnd};
 ghost use Rattle.rects.specs.Rects.{distance};
 ghost use Rattle.meeting.specs.Steps.{Given};
 
@@ -54,20 +54,13 @@ pub fn horizontal_at(rects: &[u32], directions: &[u32], chosen: &[u32], i: usize
     segment_of(rects::rect_at(rects, place), 0)
 }
 
-// Does a doubled place lie within twice the span, widened by the limit?
+// Does a doubled place lie within twice the span, widened by the limit? A horizontal and a vertical touch, the Rust's `meet`, where each holds the other's
+// doubled centre.
 pub fn span_holds(a: Segment, c: u32, join: u64) -> bool
     requires { ⌜ join < 2 ^ 32 ⌝ }
     ensures { λ r. ⌜ r ≡ spanHolds join a c ⌝ }
 {
     (2 * a.start as u64 <= c as u64 + 2 * join) & (c as u64 <= 2 * (a.end as u64 + join))
-}
-
-// Do a horizontal and a vertical touch? The Rust's `meet`.
-pub fn touches(h: Segment, v: Segment, join: u64) -> bool
-    requires { ⌜ (join < 2 ^ 32) × (h .horizontal ≡ true) × (v .horizontal ≡ false) ⌝ }
-    ensures { λ r. ⌜ r ≡ touches join h v ⌝ }
-{
-    span_holds(h, v.centre2, join) & span_holds(v, h.centre2, join)
 }
 
 // The difference, and 0 where there is none.

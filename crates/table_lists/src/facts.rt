@@ -9,7 +9,7 @@ ghost use Rattle.meeting.specs.Segments.{rulingAt};
 ghost use Rattle.table_lists.specs.Answers.{placesOf};
 ghost use Rattle.meeting.specs.Steps.{Given, IndexesBelow};
 ghost use Rattle.table_lists.specs.Steps.{SetsIn, Numbers, Rooms, Chose, Bounded, Measured};
-use meeting::ends;
+use junctions::ends;
 use shapes::limits::Limits;
 use shapes::shape;
 

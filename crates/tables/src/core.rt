@@ -6,7 +6,7 @@ ghost use Rattle.sets.specs.Listing.{membersOf};
 ghost use Rattle.meeting.specs.Steps.{Given};
 ghost use Rattle.table_lists.specs.Steps.{SetsIn, Numbers, FactsWritten};
 ghost use Rattle.tables.specs.Steps.{Filled, Roomy};
-use meeting::connect;
+use crossings::connect;
 use shapes::limits::Limits;
 use table_lists::facts;
 

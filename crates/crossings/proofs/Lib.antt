@@ -1,0 +1,3 @@
+-- The laws of rows of crossing rulings, which several proofs cite.
+pub mod Crossing
+pub mod Spans

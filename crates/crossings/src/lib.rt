@@ -1,0 +1,2 @@
+// The closed sets that rulings make by touching.
+pub mod connect;

@@ -1,0 +1,2 @@
+// The ends of rulings that others join.
+pub mod ends;
