@@ -14,7 +14,7 @@ use Rattle.rects.specs.Steps.{Inside}
 use Rattle.sets.specs.Closed.{Below}
 use Rattle.sets.specs.Steps.{Joins, root, Swept, known, tried}
 use Rattle.sets.proofs.Sweeps.{between-known, between-all, sweep-begin, sweep-end}
-use Rattle.order.specs.ByKeys.{ByKeys}
+use Rattle.sorted.specs.Ordered.{InOrder}
 use Rattle.box_sets.specs.Boxes.{similar, centreX, aligned, touching, Touch}
 use Rattle.box_sets.specs.Steps.{PassedBoxes, centreIn, Centred, Near, Sweep, JoinedSo, SweptTo, JoinedNear}
 
@@ -32,7 +32,7 @@ centre-aligns : (columns : Bool) (limit : ℕ) (a b : Rect) → leb (distance (c
 centre-aligns true limit a b e = rw e
 centre-aligns false limit a b e = rw e (or-second (leb (distance (centreX a) (centreX b)) limit))
 
-pub centres-sweep : (rects : List ℕ) (limit : ℕ) (columns : Bool) {order keys : List ℕ} → PassedBoxes rects → Centred rects columns keys → ByKeys (count rects) keys order
+pub centres-sweep : (rects : List ℕ) (limit : ℕ) (columns : Bool) {order keys : List ℕ} → PassedBoxes rects → Centred rects columns keys → InOrder (count rects) keys order
     → Sweep rects limit order keys
 centres-sweep rects limit columns P C K =
     record {
@@ -66,7 +66,7 @@ from-before {rects} {limit} {order} {keys} {p₀} {p} {q} {k′ = k′} {l′} B
     split i j di dj (known e) = inl (known (B .pairs .done i j di dj (known e)))
     split i j di dj (tried t ea eb o h) = inl (tried t ea eb o h)
 
-pub sweep-done : {rects : List ℕ} {limit : ℕ} (columns : Bool) {order keys p q : List ℕ} {k l : ℕ} → Centred rects columns keys → ByKeys (count rects) keys order
+pub sweep-done : {rects : List ℕ} {limit : ℕ} (columns : Bool) {order keys p q : List ℕ} {k l : ℕ} → Centred rects columns keys → InOrder (count rects) keys order
     → SweptTo rects limit order keys p k l q → count rects ≤ k → JoinedNear rects limit columns p q
 sweep-done {rects} {limit} columns {keys = keys} {p} C K B h =
     record { pairs = between-known (sweep-end (B .pairs) h (K .stands)) (λ i j di dj s. inl (⊎-elim inl (λ t. inr (by-key i j di dj t)) s)) }

@@ -10,7 +10,7 @@ use Rattle.lists.specs.Lists.{concat, written}
 use Rattle.sets.specs.Closed.{Below}
 use Rattle.sets.specs.Listing.{endsFrom}
 use Rattle.sets.specs.Steps.{root, Between, Swept}
-use Rattle.order.specs.ByKeys.{ByKeys}
+use Rattle.sorted.specs.Ordered.{InOrder}
 use Rattle.rects.specs.declared.Rect.{Rect}
 use Rattle.rects.specs.Rects.{count, widthOf, rectAt, distance}
 use Rattle.rects.specs.Steps.{Inside}
@@ -45,7 +45,7 @@ pub record Near (rects : List ℕ) (limit : ℕ) (key : ℕ → ℕ) (i j : ℕ)
 
 -- A list begins with the indexes of all boxes, in the order of their keys; boxes with near keys are aligned.
 pub record Sweep (rects : List ℕ) (limit : ℕ) (order keys : List ℕ) : Type 0 where
-  pub sorted : ByKeys (count rects) keys order
+  pub sorted : InOrder (count rects) keys order
   pub small : (i : ℕ) → i < count rects → getD keys i 0 < 2 ^ 14
   pub aligns : (i j : ℕ) → i < count rects → j < count rects → leb (distance (getD keys i 0) (getD keys j 0)) limit ≡ true
       → aligned limit (rectAt rects i) (rectAt rects j) ≡ true

@@ -5,7 +5,7 @@ ghost use mathlib.Core.Bool.{cond};
 ghost use Prim.Native.Nat.{_+_, _≤_, _<_, _^_, max};
 ghost use lib.ListN.{length, drop};
 ghost use Rattle.rects.specs.Rects.{count};
-ghost use Rattle.order.specs.ByKeys.{SortRoom, ByKeys};
+ghost use Rattle.sorted.specs.Ordered.{SortRoom, InOrder};
 ghost use Rattle.box_sets.specs.Steps.{PassedBoxes, centreIn, Centred, Sweep, SweptTo, OneSet, RowDone, JoinedSo, JoinedNear};
 use crate::touch;
 use rects::Rect;
@@ -38,12 +38,12 @@ fn write_keys(rects: &[u32], columns: bool, keys: &mut [u64])
 fn arrange(rects: &[u32], columns: bool, order: &mut [u32], work: &mut [u32], keys: &mut [u64])
     requires { ⌜ SortRoom (count (now rects)) (now order) (now work) (now keys) ⌝ }
     ensures { λ _.
-        ⌜ Centred (now (rects .entry)) columns (now (keys .exit)) × ByKeys (count (now (rects .entry))) (now (keys .exit)) (now (order .exit))
+        ⌜ Centred (now (rects .entry)) columns (now (keys .exit)) × InOrder (count (now (rects .entry))) (now (keys .exit)) (now (order .exit))
         × (drop (count (now (rects .entry))) (now (order .exit)) ≡ drop (count (now (rects .entry))) (now (order .entry))) ⌝ }
 {
     let n = rects.len() / 4;
     write_keys(rects, columns, keys);
-    order::sort(&keys[0..n], order, work);
+    sorted::arrange(keys, n, order, work);
 }
 
 // The first place behind k that is to be tried, where those before `from` are in one set with k.

@@ -6,7 +6,7 @@ use mathlib.Core.List.{List}
 use lib.ListN.{getD}
 use Rattle.sets.specs.Closed.{Below}
 use Rattle.sets.specs.Steps.{Between, Swept}
-use Rattle.order.specs.ByKeys.{ByKeys}
+use Rattle.sorted.specs.Ordered.{InOrder}
 use Rattle.rects.specs.declared.Rect.{Rect}
 use Rattle.rects.specs.Rects.{count, rectAt}
 use Rattle.pieces.specs.Pieces.{horizontal, Touch}
@@ -54,7 +54,7 @@ Keyed pieces keys = (i : ℕ) → i < count pieces → KeyOf (rectAt pieces i) (
 -- A list begins with the indexes of all pieces, in the order of their keys.
 pub record Sweep (pieces order keys : List ℕ) : Type 0 where
   pub keyed : Keyed pieces keys
-  pub sorted : ByKeys (count pieces) keys order
+  pub sorted : InOrder (count pieces) keys order
 
 -- The pairs of the order before the places k, l were tried: those that touch are joined, and what is joined hangs together by touching.
 abbrev pub SweptTo : List ℕ → ℕ → ℕ → List ℕ → ℕ → ℕ → List ℕ → Type 0

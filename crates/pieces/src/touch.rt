@@ -6,7 +6,7 @@ ghost use lib.ListN.{length, getD, drop};
 ghost use Rattle.rects.specs.Rects.{count, rectAt};
 ghost use Rattle.sets.specs.Closed.{Below};
 ghost use Rattle.sets.specs.Steps.{Joins, Joined, Parents, Room};
-ghost use Rattle.order.specs.ByKeys.{SortRoom};
+ghost use Rattle.sorted.specs.Ordered.{SortRoom};
 ghost use Rattle.pieces.specs.Pieces.{horizontal, within, Touch};
 ghost use Rattle.pieces.specs.Steps.{Ordered, AllOrdered, centreIn, startIn, endIn, offsetIn, lastKey, KeyOf, Keyed, Sweep, SweptTo};
 use rects::Rect;
@@ -116,7 +116,7 @@ fn arrange(pieces: &[u32], order: &mut [u32], work: &mut [u32], keys: &mut [u64]
 {
     let n = pieces.len() / 4;
     write_keys(pieces, keys);
-    order::sort(&keys[0..n], order, work);
+    sorted::arrange(keys, n, order, work);
 }
 
 // Joins two pieces if the centre of the second is near the given one. Two with one parent are in one set already.

@@ -7,6 +7,7 @@ use native.Mathlib.Nat.{eq-or-lt-of-le}
 use native.Mathlib.Omega.{arith}
 use lib.ListN.{length, getD, take, drop, List·getD-append}
 use lib.Seq.{drop-at, getD-take, length-take-le}
+use Rattle.lists.specs.Lists.{written}
 use Rattle.order.specs.Order as Order
 use Rattle.order.proofs.Computed.{sorted-by, sorted-length}
 use Rattle.sorted.specs.Ordered.{keyAt, InOrder}
@@ -74,3 +75,7 @@ at-or-behind {n} {keys} {order} O k l h m = go (eq-or-lt-of-le h)
     go : (k ≡ l) ⊎ (k < l) → keyAt keys order k ≤ keyAt keys order l
     go (inl e) = rw e (omega arith)
     go (inr s) = O .ascends k l s m
+
+-- a list is written over its first places, whatever stood there
+pub written-over : (n : ℕ) (xs ls os : List ℕ) → length xs ≡ n → drop n os ≡ drop n ls → written xs os ≡ written xs ls
+written-over n xs ls os e d = rw e (ap (λ (t : List ℕ). xs ++ t) d)

@@ -8,6 +8,13 @@ use lib.ListN.{length, getD}
 abbrev pub keyAt : List ℕ → List ℕ → ℕ → ℕ
 keyAt keys order k = getD keys (getD order k 0) 0
 
+-- The lists to sort in have room for the indexes below n, and these and their count fit 32 bits.
+pub record SortRoom (n : ℕ) (os ws ks : List ℕ) : Type 0 where
+  pub small : n < 2 ^ 32
+  pub order : n ≤ length os
+  pub work : n ≤ length ws
+  pub keys : n ≤ length ks
+
 -- A list begins with all indexes below n, in the order of their keys.
 pub record InOrder (n : ℕ) (keys order : List ℕ) : Type 0 where
   pub small : n < 2 ^ 32

@@ -1,13 +1,12 @@
 // Indexes in the order of their keys, and the first place in it from which the keys are large enough: what is within bounds is found without
 // a look at the rest.
 ghost use mathlib.Core.Path.{_≡_};
-ghost use Prim.Native.Nat.{_<_, _≤_, _^_};
-ghost use lib.ListN.{length, drop};
-ghost use Rattle.sorted.specs.Ordered.{InOrder, FirstAtLeast};
+ghost use lib.ListN.{drop};
+ghost use Rattle.sorted.specs.Ordered.{SortRoom, InOrder, FirstAtLeast};
 
 // The indexes below n in the order of their keys, from the front of `order`, by way of `work`. What stands behind them is kept.
 pub fn arrange(keys: &[u64], n: usize, order: &mut [u32], work: &mut [u32])
-    requires { ⌜ (n < 2 ^ 32) × (n ≤ length (now keys)) × (n ≤ length (now order)) × (n ≤ length (now work)) ⌝ }
+    requires { ⌜ SortRoom n (now order) (now work) (now keys) ⌝ }
     ensures { λ _.
         ⌜ InOrder n (now (keys .entry)) (now (order .exit)) × (drop n (now (order .exit)) ≡ drop n (now (order .entry))) ⌝ }
 {

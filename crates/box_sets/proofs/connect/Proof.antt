@@ -12,8 +12,8 @@ use Rattle.sets.specs.Steps.{Joins, Listing, Room, root, classes}
 use Rattle.sets.specs.Listing.{endsFrom}
 use Rattle.sets.proofs.Listings.{joins-closedSets}
 use Rattle.sets.proofs.Sizes.{classes-total}
-use Rattle.order.specs.ByKeys.{SortRoom}
-use Rattle.order.proofs.ByKeys.{written-over}
+use Rattle.sorted.specs.Ordered.{SortRoom}
+use Rattle.sorted.proofs.Arranged.{written-over}
 use Rattle.box_sets.specs.Boxes.{touch, Touch}
 use Rattle.box_sets.specs.Steps.{Connected}
 use Rattle.box_sets.proofs.connect.Statement.{statement}

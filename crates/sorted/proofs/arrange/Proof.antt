@@ -25,7 +25,7 @@ same-length-2 c = search needs
 returns : tie.Need-returns
 returns c =
     let start = c .before .before .before .before .before .before .before .before .before .before .before in
-    arranged (start .args .n) (start .args .keys .now) (start .args .order .now) _ (start .pre .1) (c .before .before .before .before .sort .ensures) (start .pre .0) (start .pre .2) (c .before .before .before .before .sort .kept .1 .0)
+    arranged (start .args .n) (start .args .keys .now) (start .args .order .now) _ (start .pre .keys) (c .before .before .before .before .sort .ensures) (start .pre .small) (start .pre .order) (c .before .before .before .before .sort .kept .1 .0)
 
 pub arrange-spec : {M : Type 1} → statement M
 arrange-spec =

@@ -16,12 +16,9 @@ use Rattle.meeting.specs.Segments.{rulingAt}
 use Rattle.meeting.specs.Meeting.{touch, Touch}
 use Rattle.crossings.specs.Crossings.{Connected}
 use borrow.Author.Needs.{needs}
+use Rattle.sorted.proofs.Arranged.{written-over}
 use Rattle.crossings.proofs.connect.connect.Statement.{statement}
 use Rattle.crossings.proofs.connect.connect.Tie as tie
-
--- what is written hangs on the places behind it alone
-written-over : {n : ℕ} (xs m m′ : List ℕ) → length xs ≡ n → drop n m′ ≡ drop n m → written xs m′ ≡ written xs m
-written-over xs m m′ l e = ap (λ (k : ℕ). xs ++ drop k m′) l ∙ ap (λ (t : List ℕ). xs ++ t) e ∙ ap (λ (k : ℕ). xs ++ drop k m) (sym l)
 
 listed : (join : ℕ) (s : ℕ → Segment) {n : ℕ} {q m e q′ m′ e′ : List ℕ} {c : ℕ} (m₀ : List ℕ) → Joins n (Below n) (Touch join s) q → drop n m ≡ drop n m₀
     → Listing n q m e q′ m′ e′ c → Connected join s n m₀ e m′ e′ c
@@ -30,7 +27,7 @@ listed join s {n} {q} {m} {e} m₀ J kept L =
     let all : length (concat (classes n (root q))) ≡ n = classes-total n (root q) (J .roots .fixed) (λ i l. omega (arith, J .roots .low i l)) in
     record {
       count = L .count ∙ ap length same;
-      members = L .members ∙ written-over (concat (classes n (root q))) m₀ m all kept ∙ ap (λ (ss : List (List ℕ)). written (concat ss) m₀) same;
+      members = L .members ∙ written-over n (concat (classes n (root q))) m₀ m all kept ∙ ap (λ (ss : List (List ℕ)). written (concat ss) m₀) same;
       ends = L .ends ∙ ap (λ (ss : List (List ℕ)). written (endsFrom 0 ss) e) same;
       total = rw same at (classes-room n (root q) (J .roots .fixed));
     }

@@ -11,7 +11,7 @@ use Rattle.sets.specs.Steps.{Joins, Listing, root, classes}
 use Rattle.sets.specs.Listing.{endsFrom}
 use Rattle.sets.proofs.Listings.{joins-closedSets}
 use Rattle.sets.proofs.Sizes.{classes-all, classes-count, classes-total}
-use Rattle.order.proofs.ByKeys.{written-over}
+use Rattle.sorted.proofs.Arranged.{written-over}
 use Rattle.pieces.specs.Pieces.{touch, Touch}
 use Rattle.ruling_lists.specs.Rulings.{pieceSets}
 use Rattle.ruling_lists.specs.Steps.{SetsListed}
