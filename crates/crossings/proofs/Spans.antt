@@ -18,7 +18,7 @@ use Rattle.meeting.specs.declared.segment.Segment.{Segment}
 use Rattle.meeting.specs.Segments.{segmentOf, rulingAt, opposite, spanHolds, touches}
 use Rattle.meeting.specs.Meeting.{Touch}
 use Rattle.meeting.specs.Steps.{Given}
-use Rattle.crossings.specs.Crossings.{crossKey, firstCentre, pastCentre, RulingsOrdered}
+use Rattle.crossings.specs.Crossings.{crossKey, firstCentre, lastCentre, RulingsOrdered}
 use Rattle.crossings.proofs.Crossing.{lies, Met}
 
 small-centre : (r : Rect) (d : ℕ) → Inside 8192 8192 r → segmentOf r d .centre2 < 16384
@@ -82,7 +82,7 @@ module _ (join : ℕ) (s : ℕ → Segment) (n : ℕ) (small : (i : ℕ) → i <
   key l h = O .keyed (at l) (O .ordered .known l h)
 
   -- between the first place and the past one stand horizontals whose centre lies within the span
-  pub between : {f p : ℕ} → FirstAtLeast n keys order (firstCentre join (s i)) f → FirstAtLeast n keys order (pastCentre join (s i)) p → (l : ℕ) → f ≤ l → l < p
+  pub between : {f p : ℕ} → FirstAtLeast n keys order (firstCentre join (s i)) f → FirstAtLeast n keys order (lastCentre join (s i) + 1) p → (l : ℕ) → f ≤ l → l < p
       → (s (at l) .horizontal ≡ true) × (spanHolds join (s i) (s (at l) .centre2) ≡ true)
   between {f} {p} F P l from to =
       let inside : l < n = omega (arith, P .up-to) in
@@ -107,7 +107,7 @@ module _ (join : ℕ) (s : ℕ → Segment) (n : ℕ) (small : (i : ℕ) → i <
         let inside : l < n = omega (arith, F .up-to) in omega (arith, key l inside, key-of-horizontal (s (at l)) (lies join (s i) (s (at l)) t stands))
 
     -- what touches stands before the past place
-    pub all-met : {p k : ℕ} → FirstAtLeast n keys order (pastCentre join (s i)) p → p ≤ k → (b : ℕ) → b < n → Touch join s i b → Met join s n at k b
+    pub all-met : {p k : ℕ} → FirstAtLeast n keys order (lastCentre join (s i) + 1) p → p ≤ k → (b : ℕ) → b < n → Touch join s i b → Met join s n at k b
     all-met {p} {k} P h b lb t =
         let w = placed b lb t in
         let high = span-of join (s i) (s b .centre2) (held join (s i) (s b) t) .1 in

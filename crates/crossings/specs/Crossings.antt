@@ -14,13 +14,12 @@ use Rattle.meeting.specs.Meeting.{Touch, rulingSets}
 abbrev pub crossKey : Segment → ℕ
 crossKey a = cond (a .horizontal) (a .centre2) 16384
 
--- The first doubled centre within twice a ruling's span widened by the join limit.
+-- The first and the last key of horizontals whose doubled centre lies within twice a ruling's span widened by the join limit.
 abbrev pub firstCentre : ℕ → Segment → ℕ
 firstCentre join b = 2 * b .start - 2 * join
 
--- The first key past those.
-abbrev pub pastCentre : ℕ → Segment → ℕ
-pastCentre join b = min (2 * (b .end + join) + 1) 16384
+abbrev pub lastCentre : ℕ → Segment → ℕ
+lastCentre join b = min (2 * (b .end + join)) 16383
 
 -- Each ruling below n has its key in a list.
 abbrev pub RulingsKeyed : (ℕ → Segment) → ℕ → List ℕ → Type 0

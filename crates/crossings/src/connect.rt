@@ -9,7 +9,7 @@ ghost use Rattle.sets.specs.Steps.{Joins, Joined, Parents, Room};
 ghost use Rattle.meeting.specs.Segments.{rulingAt, spanHolds};
 ghost use Rattle.meeting.specs.Meeting.{Touch};
 ghost use Rattle.meeting.specs.Steps.{Given};
-ghost use Rattle.crossings.specs.Crossings.{crossKey, firstCentre, pastCentre, RulingsKeyed, RulingsOrdered, Tried, Connected};
+ghost use Rattle.crossings.specs.Crossings.{crossKey, firstCentre, lastCentre, RulingsKeyed, RulingsOrdered, Tried, Connected};
 use meeting::segment;
 use meeting::segment::Segment;
 
@@ -24,7 +24,7 @@ fn key_of(a: Segment) -> u64
     }
 }
 
-// The first key that a vertical ruling may touch, and the first past those.
+// The first and the last key of those that a vertical ruling may touch.
 fn first_key(b: Segment, join: u64) -> u64
     requires { ⌜ join < 2 ^ 32 ⌝ }
     ensures { λ k. ⌜ k ≡ firstCentre join b ⌝ }
@@ -32,12 +32,12 @@ fn first_key(b: Segment, join: u64) -> u64
     segment::saturating_sub(2 * (b.start as u64), 2 * join)
 }
 
-fn past_key(b: Segment, join: u64) -> u64
+fn last_key(b: Segment, join: u64) -> u64
     requires { ⌜ join < 2 ^ 32 ⌝ }
-    ensures { λ k. ⌜ k ≡ pastCentre join b ⌝ }
+    ensures { λ k. ⌜ k ≡ lastCentre join b ⌝ }
 {
-    let past = 2 * (b.end as u64 + join) + 1;
-    if past < 16384 { past } else { 16384 }
+    let last = 2 * (b.end as u64 + join);
+    if last < 16383 { last } else { 16383 }
 }
 
 // Writes the key of each ruling.
@@ -108,7 +108,7 @@ fn join_row(
     if b.horizontal {
         return;
     }
-    let past = sorted::first_at_least(keys, order, n, past_key(b, join));
+    let past = sorted::first_at_least(keys, order, n, last_key(b, join) + 1);
     let mut k = sorted::first_at_least(keys, order, n, first_key(b, join));
     while k < past {
         join_held(

@@ -12,7 +12,7 @@ use Rattle.sets.specs.Steps.{Joins, Joined}
 use Rattle.sorted.specs.Ordered.{FirstAtLeast}
 use Rattle.meeting.specs.declared.segment.Segment.{Segment}
 use Rattle.meeting.specs.Segments.{rulingAt, spanHolds}
-use Rattle.crossings.specs.Crossings.{firstCentre, pastCentre, RulingsOrdered, Tried}
+use Rattle.crossings.specs.Crossings.{firstCentre, lastCentre, RulingsOrdered, Tried}
 use Rattle.crossings.proofs.Crossing.{InRow, row-none, row-begin, row-next, row-end}
 use Rattle.crossings.proofs.Spans.{centre-small, touches-held, between, far-before, all-met}
 use Rattle.crossings.proofs.connect.join_row.Statement.{statement}
@@ -23,13 +23,13 @@ module _ (join : ℕ) (s : ℕ → Segment) (n : ℕ) (keys order : List ℕ) wh
     stands : s i .horizontal ≡ false
     read : b ≡ s i
     from : FirstAtLeast n keys order (firstCentre join (s i)) first
-    to : FirstAtLeast n keys order (pastCentre join (s i)) past
+    to : FirstAtLeast n keys order (lastCentre join (s i) + 1) past
     on : first ≤ k
     long : length q ≡ length p
     seen : Joins n (Below n) (InRow join s n (λ l. getD order l 0) i k) q
 
   module _ (small : (i : ℕ) → i < n → s i .centre2 < 16384) (O : RulingsOrdered s n keys order) where
-    begun : {p : List ℕ} {i x y past first : ℕ} {b : Segment} → b ≡ s i → b .horizontal ≡ false → x ≡ pastCentre join b → FirstAtLeast n keys order x past
+    begun : {p : List ℕ} {i x y past first : ℕ} {b : Segment} → b ≡ s i → b .horizontal ≡ false → x ≡ lastCentre join b → FirstAtLeast n keys order (x + 1) past
         → y ≡ firstCentre join b → FirstAtLeast n keys order y first → Joins n (Below n) (Tried join s i) p → Row p i b past first p first
     begun {p} {i} {first = first} e h f P g F J =
         let stands : s i .horizontal ≡ false = ap (λ (x : Segment). x .horizontal) (sym e) ∙ h in
@@ -38,7 +38,7 @@ module _ (join : ℕ) (s : ℕ → Segment) (n : ℕ) (keys order : List ℕ) wh
           stands = stands;
           read = e;
           from = from;
-          to = rw (sym (f ∙ ap (pastCentre join) e)) P;
+          to = rw (sym (f ∙ ap (lastCentre join) e)) P;
           on = le-refl first;
           long = refl;
           seen = row-begin join s n (λ l. getD order l 0) J (far-before join s n small O i stands from);
@@ -88,8 +88,11 @@ returns c =
     let start = c .before .before .before .before .before .before .before .before in
     lying (start .args .join) (rulingAt (start .args .rects .now) (start .args .directions .now) (start .args .chosen .now)) (length (start .args .chosen .now)) (start .args .keys .now) (start .args .order .now) (c .before .ruling-at .ensures) (c .if1 .taken) (start .pre .1)
 
-past-key-requires : tie.Need-past-key-requires Inv-loop μ-loop
-past-key-requires c κs = c .before .before .before .before .before .before .before .before .pre .0 .0
+last-key-requires : tie.Need-last-key-requires Inv-loop μ-loop
+last-key-requires c κs = c .before .before .before .before .before .before .before .before .pre .0 .0
+
+add-first-at-least : tie.Need-add-first-at-least Inv-loop μ-loop
+add-first-at-least c = omega (arith, c .last-key .ensures)
 
 first-at-least-requires : tie.Need-first-at-least-requires Inv-loop μ-loop
 first-at-least-requires c κs = c .before .before .before .before .before .before .before .before .before .pre .0 .2 .ordered
@@ -103,7 +106,7 @@ first-at-least-requires-2 c κs = c .before .before .before .before .before .bef
 loop-holds : tie.Need-loop-holds Inv-loop μ-loop
 loop-holds c =
     let start = c .before .before .before .before .before .before .before .before .before .before .before .before in
-    begun (start .args .join) (rulingAt (start .args .rects .now) (start .args .directions .now) (start .args .chosen .now)) (length (start .args .chosen .now)) (start .args .keys .now) (start .args .order .now) (centre-small (start .pre .0 .1)) (start .pre .0 .2) (c .before .before .before .before .before .ruling-at .ensures) (c .before .before .before .before .if1 .left) (c .before .before .before .past-key .ensures) (c .before .before .first-at-least .ensures) (c .before .first-key .ensures) (c .first-at-least2 .ensures) (start .pre .1)
+    begun (start .args .join) (rulingAt (start .args .rects .now) (start .args .directions .now) (start .args .chosen .now)) (length (start .args .chosen .now)) (start .args .keys .now) (start .args .order .now) (centre-small (start .pre .0 .1)) (start .pre .0 .2) (c .before .before .before .before .before .ruling-at .ensures) (c .before .before .before .before .if1 .left) (c .before .before .before .last-key .ensures) (c .before .before .first-at-least .ensures) (c .before .first-key .ensures) (c .first-at-least2 .ensures) (start .pre .1)
 
 mul-join-held : tie.Need-mul-join-held Inv-loop μ-loop
 mul-join-held c = omega (arith, c .before .loop-test .taken, c .before .before .loop .inv .to .up-to, c .before .before .before .before .before .before .before .before .before .before .before .before .before .before .before .pre .0 .1 .few)
@@ -149,7 +152,8 @@ join-row-spec =
     μ-loop
     ruling-at-requires
     returns
-    past-key-requires
+    last-key-requires
+    add-first-at-least
     first-at-least-requires
     first-key-requires
     first-at-least-requires-2
