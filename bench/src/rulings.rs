@@ -12,7 +12,7 @@ use crate::ruled_tables::{form, strokes};
 use crate::rust_layout::with_rules;
 use crate::timing::{Measurement, Times, compare};
 
-pub const MEASUREMENTS: [Measurement; 5] = [
+pub const MEASUREMENTS: [Measurement; 6] = [
     ("rulings, a page of 300 pieces, its rules drawn", || {
         join(drawn_page())
     }),
@@ -30,6 +30,13 @@ pub const MEASUREMENTS: [Measurement; 5] = [
         let pieces = (0..4_096).flat_map(|i| [2 * i, 5, 2 * i, 5]).collect();
         join(page(8_192, 16, 10.0, pieces))
     }),
+    (
+        "rulings, 4 pieces as large as a picture of 8,192 square",
+        || {
+            let pieces = (0..4).flat_map(|i| [0, 4 * i, 8_191, 8_191]).collect();
+            join(page(8_192, 8_192, 1.0, pieces))
+        },
+    ),
 ];
 
 /// Five tables of 9 rows and 4 columns on A4 at 300 dots an inch, each rule in four pieces that lie
@@ -91,7 +98,7 @@ fn join(page: PiecesPage) -> Times {
     let theirs = rulings::segments(&layout, &page.raster, &p);
     assert_eq!((found.number, found.count), (0, theirs.len()));
     compare(
-        21,
+        if page.raster.len() < 1 << 26 { 21 } else { 3 },
         || {
             black_box(ffi::segments(black_box(&page.given()), &mut lent));
         },
