@@ -1,4 +1,5 @@
 -- Why boxes are joined rightly: laws that belong to no one function.
 pub mod Similar
 pub mod Rows
+pub mod Nexts
 pub mod Sweeps

@@ -1,8 +1,8 @@
--- A row of a sweep: a box against those behind it in the order, as far as its centre reaches. Where all of these are in one set with it,
--- the next box need not be held against them.
+-- A row of a sweep: a box against those behind it in the order, as far as its centre reaches, up to the first of its own width. Where all of
+-- these are in one set with it, the next box need not be held against them.
 use mathlib.Core.Path.{_≡_, sym, ap, ap₂, _∙_}
 use mathlib.Core.Bool.{Bool, true, _&&_}
-use mathlib.Core.Logic.{_⊎_, inl, inr, ⊎-elim}
+use mathlib.Core.Logic.{_⊎_, inl, inr}
 use mathlib.Core.List.{List}
 use Prim.Native.Nat.{ℕ, _+_, _≤_, _<_, max}
 use native.Mathlib.Nat.{eq-or-lt-of-le}
@@ -12,13 +12,11 @@ use lib.Dec.{leb}
 use lib.ListN.{getD}
 use borrow.Author.Tests.{leb-true, le-leb}
 use Rattle.rects.specs.Rects.{count, widthOf, rectAt, distance}
-use Rattle.sets.specs.Closed.{Touching}
-use Rattle.sets.specs.Steps.{root, Joined, Swept, known, tried}
-use Rattle.sets.proofs.Roots.{joined-keeps}
-use Rattle.sets.proofs.Sweeps.{between-known, sweep-pair, sweep-row-in}
+use Rattle.sets.specs.Steps.{root, Joined}
+use Rattle.sets.proofs.Roots.{joined-keeps, joined-one}
+use Rattle.sets.proofs.Sweeps.{between-more}
 use Rattle.box_sets.specs.Boxes.{similar, touching}
-use Rattle.box_sets.specs.Steps.{PassedBoxes, Near, Sweep, SweptTo, OneSet}
-use Rattle.box_sets.proofs.Similar.{similar-comm}
+use Rattle.box_sets.specs.Steps.{Near, Sweep, widthAt, NextNear, SweptTo, OneSet}
 
 -- ---- places in one set
 
@@ -36,20 +34,16 @@ module _ {order : List ℕ} {k e : ℕ} {p : List ℕ} (one : OneSet order k e p
 
   -- pairs with the first of them are joined already
   pub run-known : {rects : List ℕ} {limit : ℕ} {keys p₀ : List ℕ} {l : ℕ} → SweptTo rects limit order keys p₀ k l p → SweptTo rects limit order keys p₀ k (max e l) p
-  run-known {rects} {limit} {keys} {p₀} {l} B = record { pairs = between-known (B .pairs) (λ i j di dj s. split i j s) }
+  run-known {rects} {limit} {keys} {p₀} {l} B = record { before = B .before; pairs = each }
     where
-      Tried : ℕ → ℕ → ℕ → Type 0
-      Tried m i j = Swept (λ i j. root p₀ i ≡ root p₀ j) (Near rects limit (λ i. getD keys i 0)) order k m i j
-
-      split : (i j : ℕ) → Tried (max e l) i j → Tried l i j ⊎ (root p i ≡ root p j)
-      split i j (known s) = inl (known s)
-      split i j (tried t ea eb o (inl h)) = inl (tried t ea eb o (inl h))
-      split i j (tried {a = a} {b = b} t ea eb o (inr h)) =
+      each : (a b : ℕ) → NextNear rects limit order keys a b → (a < k) ⊎ ((a ≡ k) × (b < max e l)) → root p (getD order a 0) ≡ root p (getD order b 0)
+      each a b N (inl h) = B .pairs a b N (inl h)
+      each a b N (inr h) =
           let f = h .0 in
           let m = h .1 in
           elim (decLt b e) [
-            | yes w ↦ inr (ap (root p) (sym ea ∙ ap (λ (x : ℕ). getD order x 0) f) ∙ sym (one .same b (omega arith) w) ∙ ap (root p) eb)
-            | no w ↦ inl (tried t ea eb o (inr (f, omega arith)))
+            | yes w ↦ ap (λ (x : ℕ). root p (getD order x 0)) f ∙ sym (one .same b (omega (arith, N .behind)) w)
+            | no w ↦ B .pairs a b N (inr (f, omega arith))
           ]
 
 -- one more, after a join
@@ -71,44 +65,79 @@ pub record Head (rects : List ℕ) (limit : ℕ) (keys : List ℕ) (i width last
   pub wide : width ≡ widthOf (rectAt rects i)
   pub reaches : last ≡ getD keys i 0 + limit
 
-module _ {rects : List ℕ} {limit : ℕ} {order keys : List ℕ} {k width last : ℕ} (P : PassedBoxes rects) (S : Sweep rects limit order keys)
+module _ {rects : List ℕ} {limit : ℕ} {order keys : List ℕ} {k width last : ℕ} (S : Sweep rects limit order keys)
     (first : k < count rects) (H : Head rects limit keys (getD order k 0) width last) where
   near : (l : ℕ) → k < l → l < count rects → getD keys (getD order l 0) 0 ≤ last
       → leb (distance (getD keys (getD order k 0) 0) (getD keys (getD order l 0) 0)) limit ≡ true
   near l o ll w = le-leb _ limit (omega (arith, S .sorted .ascends k l o ll, H .reaches))
 
+  -- a pair is tried: it is joined if it is near
   pub pair-tried : {p₀ : List ℕ} {l : ℕ} {p q : List ℕ} → SweptTo rects limit order keys p₀ k l p → k < l → l < count rects → getD keys (getD order l 0) 0 ≤ last
-      → Joined (count rects) p (getD order k 0) (getD order l 0) (similar width (widthOf (rectAt rects (getD order l 0)))) q
+      → Joined (count rects) p (getD order k 0) (getD order l 0) (similar width (widthAt rects order l)) q
       → SweptTo rects limit order keys p₀ k (l + 1) q
   unfolding touching
-  pair-tried {l = l} B o ll w J =
-      let ka = S .sorted .known k first in
-      let kb = S .sorted .known l ll in
-      let a = getD order k 0 in
-      let b = getD order l 0 in
-      let wa = widthOf (rectAt rects a) in
-      let wb = widthOf (rectAt rects b) in
-      let s : similar width wb ≡ similar wa wb = ap (λ (x : ℕ). similar x wb) (H .wide) in
-      let c = similar-comm wa wb (omega (arith, P .inside a ka .right)) (omega (arith, P .inside b kb .right)) in
+  pair-tried {l = l} {q = q} B o ll w J =
       record {
-        pairs =
-            sweep-pair (B .pairs) ka kb _ J (λ f. inl (ap₂ _&&_ (sym s ∙ f) (S .aligns a b ka kb (near l o ll w))))
-            (⊎-elim (λ f. inl (s ∙ f .alike)) (λ f. inl (s ∙ c ∙ f .alike)));
+        before = between-more (B .before) ka kb _ J (λ f. inl (ap₂ _&&_ (sym s ∙ f) (S .aligns i j ka kb (near l o ll w)))) (λ x y dx dy e. inl (inl e));
+        pairs = each;
       }
+    where
+      i : ℕ
+      i = getD order k 0
+
+      j : ℕ
+      j = getD order l 0
+
+      ka : i < count rects
+      ka = S .sorted .known k first
+
+      kb : j < count rects
+      kb = S .sorted .known l ll
+
+      s : similar width (widthAt rects order l) ≡ similar (widthAt rects order k) (widthAt rects order l)
+      s = ap (λ (x : ℕ). similar x (widthAt rects order l)) (H .wide)
+
+      this : NextNear rects limit order keys k l → root q i ≡ root q j
+      this N = joined-one (rw (s ∙ N .near .alike) at J) ka kb
+
+      kept : (a b : ℕ) → NextNear rects limit order keys a b → (a < k) ⊎ ((a ≡ k) × (b < l)) → root q (getD order a 0) ≡ root q (getD order b 0)
+      kept a b N h = joined-keeps J (getD order a 0) (getD order b 0) (S .sorted .known a (omega (arith, N .behind, N .inside))) (S .sorted .known b (N .inside)) (B .pairs a b N h)
+
+      each : (a b : ℕ) → NextNear rects limit order keys a b → (a < k) ⊎ ((a ≡ k) × (b < l + 1)) → root q (getD order a 0) ≡ root q (getD order b 0)
+      each a b N (inl h) = kept a b N (inl h)
+      each a b N (inr h) =
+          let f = h .0 in
+          let m = h .1 in
+          elim (ℕ-discrete b l) [ yes e ↦ rw (f, e) (this (rw (f, e) at N)) | no e ↦ kept a b N (inr (f, omega arith)) ]
+
+  -- a row is done where none of the places left is next to its first
+  row-rests : {p₀ : List ℕ} {l : ℕ} {p : List ℕ} → SweptTo rects limit order keys p₀ k l p → ((b : ℕ) → l ≤ b → NextNear rects limit order keys k b → ⊥)
+      → SweptTo rects limit order keys p₀ (k + 1) (k + 2) p
+  row-rests {l = l} {p} B rest = record { before = B .before; pairs = each }
+    where
+      in-row : (a b : ℕ) → NextNear rects limit order keys a b → a ≡ k → root p (getD order a 0) ≡ root p (getD order b 0)
+      in-row a b N e = elim (decLt b l) [ yes h ↦ B .pairs a b N (inr (e, h)) | no h ↦ absurd (rest b (omega arith) (rw e at N)) ]
+
+      each : (a b : ℕ) → NextNear rects limit order keys a b → (a < k + 1) ⊎ ((a ≡ k + 1) × (b < k + 2)) → root p (getD order a 0) ≡ root p (getD order b 0)
+      each a b N (inl h) = elim (ℕ-discrete a k) [ yes e ↦ in-row a b N e | no e ↦ B .pairs a b N (inl (omega arith)) ]
+      each a b N (inr h) = absurd (let x = h .0 in let y = h .1 in omega (arith, N .behind))
 
   -- a box out of reach, and all behind it
-  out-of-reach : (b : ℕ) → last < getD keys (getD order b 0) 0 → Touching (Near rects limit (λ i. getD keys i 0)) (getD order k 0) (getD order b 0) → ⊥
-  out-of-reach b late (inl f) = let h = leb-true _ limit (f .close) in omega (arith, H .reaches)
-  out-of-reach b late (inr f) = let h = leb-true _ limit (f .close) in omega (arith, H .reaches)
+  out-of-reach : (b : ℕ) → last < getD keys (getD order b 0) 0 → Near rects limit (λ i. getD keys i 0) (getD order k 0) (getD order b 0) → ⊥
+  out-of-reach b late f = let h = leb-true _ limit (f .close) in omega (arith, H .reaches)
 
   pub row-stops : {p₀ : List ℕ} {l : ℕ} {p : List ℕ} → SweptTo rects limit order keys p₀ k l p → l < count rects → last < getD keys (getD order l 0) 0
       → SweptTo rects limit order keys p₀ (k + 1) (k + 2) p
-  row-stops {l = l} B ll late =
-      record { pairs = sweep-row-in (B .pairs) (S .sorted .stands) (λ b o m lb t. out-of-reach b (later b m lb (eq-or-lt-of-le m)) t) }
+  row-stops {l = l} B ll late = row-rests B (λ b m N. out-of-reach b (later b m (N .inside) (eq-or-lt-of-le m)) (N .near))
     where
       later : (b : ℕ) → l ≤ b → b < count rects → (l ≡ b) ⊎ (l < b) → last < getD keys (getD order b 0) 0
       later b m lb (inl e) = rw e at late
       later b m lb (inr s) = omega (arith, S .sorted .ascends l b s lb)
 
+  -- none is next to the first of a row past one of its width
+  pub row-meets-width : {p₀ : List ℕ} {l : ℕ} {p : List ℕ} → SweptTo rects limit order keys p₀ k (l + 1) p → k < l → widthAt rects order l ≡ width
+      → SweptTo rects limit order keys p₀ (k + 1) (k + 2) p
+  row-meets-width {l = l} B o e = row-rests B (λ b m N. N .first l o (omega arith) (e ∙ H .wide))
+
   pub row-ends : {p₀ : List ℕ} {l : ℕ} {p : List ℕ} → SweptTo rects limit order keys p₀ k l p → count rects ≤ l → SweptTo rects limit order keys p₀ (k + 1) (k + 2) p
-  row-ends B h = record { pairs = sweep-row-in (B .pairs) (S .sorted .stands) (λ b o m lb t. absurd (omega arith)) }
+  row-ends B h = row-rests B (λ b m N. absurd (omega (arith, N .inside)))

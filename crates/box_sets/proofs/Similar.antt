@@ -1,4 +1,5 @@
--- Similar widths are the same either way round: the difference of two whole numbers is exact, and so is the larger.
+-- Similar widths are the same either way round, and a width is similar to itself: the difference of two whole numbers is exact, and so is
+-- the larger.
 use mathlib.Core.Path.{_≡_, refl, sym, ap, ap₂, _∙_}
 use mathlib.Core.Bool.{Bool, true, false, cond}
 use Prim.Native.Nat.{ℕ, _-_, _*_, _^_, _≤_, _<_, max}
@@ -6,16 +7,18 @@ use native.Mathlib.Nat.{mul-one, mul-assoc, mul-comm, mul-pos, mul-lt-mul-of-pos
 use native.Mathlib.Decide.{decLt}
 use native.Mathlib.Omega.{arith}
 use lib.Dec.{ltb, lit<}
-use lib.Ieee.{Float, nan, inf, fin, binary64, up, down, round, sum, sub, mul, neg, lt, le, ofInt, isNan}
+use lib.Ieee.{Float, nan, inf, fin, binary64, up, down, round, sum, sub, mul, neg, lt, le, ofInt, ofBits, isNan}
+use lib.Ieee.Bits.{is-true}
 use lib.Ieee.Exact.{HasValue}
 use lib.Ieee.Fits.{down-pos}
+use lib.Ieee.Order.{round-mono}
 use borrow.Author.Tests.{ltb-true, ltb-false, lt-ltb, le-ltb}
 use Rattle.math.specs.Constants.{threeTenths}
 use Rattle.math.specs.Select.{absolute, negative, maximumNumber}
 use Rattle.math.specs.Sum.{whole}
 use Rattle.math.proofs.Rounded.{round-neg}
 use Rattle.math.proofs.Sums.{whole-value}
-use Rattle.math.proofs.Value.{sub-value}
+use Rattle.math.proofs.Value.{sub-value, mul-value}
 use Rattle.rects.specs.Rects.{distance}
 use Rattle.box_sets.specs.Boxes.{similar}
 
@@ -140,3 +143,19 @@ similar-comm a b A B =
     similar-whole a b A B
     ∙ ap₂ (λ (x y : ℕ). le (whole (x - y)) (mul binary64 threeTenths (whole x))) (max-comm a b) (min-comm a b)
     ∙ sym (similar-whole b a B A)
+
+-- ---- a width and itself
+
+three-tenths-value : HasValue threeTenths false 5404319552844595 (2 ^ 54)
+unfolding ofBits
+three-tenths-value = (refl, refl)
+
+-- a product of numbers that are not negative is not negative
+not-below-zero : (a : ℕ) → a ≤ 2 ^ 53 → le (whole 0) (mul binary64 threeTenths (whole a)) ≡ true
+unfolding ofInt
+not-below-zero a A =
+    ap (le (whole 0)) (mul-value binary64 threeTenths (whole a) false false 5404319552844595 (2 ^ 54) a 1 (lit< tt) (lit< tt) three-tenths-value (whole-value a A))
+    ∙ is-true _ (round-mono binary64 0 1 (5404319552844595 * a) (2 ^ 54 * 1) (lit< tt) (lit< tt) (omega arith))
+
+pub similar-itself : (a : ℕ) → a < 2 ^ 32 → similar a a ≡ true
+similar-itself a A = sym (found-similar a a {d = 0} {m = a} A A (omega arith) (omega arith)) ∙ not-below-zero a (omega arith)

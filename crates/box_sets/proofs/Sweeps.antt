@@ -12,11 +12,12 @@ use Rattle.rects.specs.declared.Rect.{Rect}
 use Rattle.rects.specs.Rects.{count, rectAt, widthOf, distance}
 use Rattle.rects.specs.Steps.{Inside}
 use Rattle.sets.specs.Closed.{Below}
-use Rattle.sets.specs.Steps.{Joins, root, Swept, known, tried}
-use Rattle.sets.proofs.Sweeps.{between-known, between-all, sweep-begin, sweep-end}
+use Rattle.sets.specs.Steps.{Joins, root}
+use Rattle.sets.proofs.Sweeps.{between-known, between-all}
 use Rattle.sorted.specs.Ordered.{InOrder}
 use Rattle.box_sets.specs.Boxes.{similar, centreX, aligned, touching, Touch}
-use Rattle.box_sets.specs.Steps.{PassedBoxes, centreIn, Centred, Near, Sweep, JoinedSo, SweptTo, JoinedNear}
+use Rattle.box_sets.specs.Steps.{PassedBoxes, centreIn, Centred, Near, Sweep, JoinedSo, NextNear, SweptTo, JoinedNear}
+use Rattle.box_sets.proofs.Nexts.{near-joined}
 
 -- ---- the keys are doubled centres
 
@@ -44,36 +45,33 @@ centres-sweep rects limit columns P C K =
 -- ---- rows
 
 pub sweep-begun : {rects : List ℕ} {limit : ℕ} {order keys p : List ℕ} → JoinedSo rects limit (λ i j. ⊥) p → SweptTo rects limit order keys p 0 1 p
-sweep-begun B = record { pairs = sweep-begin (between-known B (λ i j di dj e. inr e)) }
+sweep-begun {rects} {limit} {order} {keys} {p} B = record { before = between-known B (λ i j di dj e. inr e); pairs = each }
+  where
+    each : (a b : ℕ) → NextNear rects limit order keys a b → (a < 0) ⊎ ((a ≡ 0) × (b < 1)) → root p (getD order a 0) ≡ root p (getD order b 0)
+    each a b N (inl h) = absurd (omega arith)
+    each a b N (inr h) = absurd (let x = h .0 in let y = h .1 in omega (arith, N .behind))
 
 -- a row sees what was joined before it
 pub from-here : {rects : List ℕ} {limit : ℕ} {order keys p₀ p : List ℕ} {k l : ℕ} → SweptTo rects limit order keys p₀ k l p → SweptTo rects limit order keys p k l p
-from-here {rects} {limit} {order} {keys} {p₀} {p} {k} {l} B = record { pairs = between-known (B .pairs) (λ i j di dj s. split i j s) }
-  where
-    split : (i j : ℕ) → Swept (λ i j. root p i ≡ root p j) (Near rects limit (λ i. getD keys i 0)) order k l i j
-        → Swept (λ i j. root p₀ i ≡ root p₀ j) (Near rects limit (λ i. getD keys i 0)) order k l i j ⊎ (root p i ≡ root p j)
-    split i j (known e) = inr e
-    split i j (tried t ea eb o h) = inl (tried t ea eb o h)
+from-here B = record { before = between-known (B .before) (λ i j di dj e. inr e); pairs = B .pairs }
 
 -- and leaves it joined
 pub from-before : {rects : List ℕ} {limit : ℕ} {order keys p₀ p q : List ℕ} {k l k′ l′ : ℕ} → SweptTo rects limit order keys p₀ k l p
     → SweptTo rects limit order keys p k′ l′ q → SweptTo rects limit order keys p₀ k′ l′ q
-from-before {rects} {limit} {order} {keys} {p₀} {p} {q} {k′ = k′} {l′} B R = record { pairs = between-known (R .pairs) (λ i j di dj s. split i j di dj s) }
-  where
-    split : (i j : ℕ) → Below (count rects) i → Below (count rects) j
-        → Swept (λ i j. root p₀ i ≡ root p₀ j) (Near rects limit (λ i. getD keys i 0)) order k′ l′ i j
-        → Swept (λ i j. root p i ≡ root p j) (Near rects limit (λ i. getD keys i 0)) order k′ l′ i j ⊎ (root q i ≡ root q j)
-    split i j di dj (known e) = inl (known (B .pairs .done i j di dj (known e)))
-    split i j di dj (tried t ea eb o h) = inl (tried t ea eb o h)
+from-before B R = record { before = between-known (R .before) (λ i j di dj e. inl (B .before .done i j di dj e)); pairs = R .pairs }
 
-pub sweep-done : {rects : List ℕ} {limit : ℕ} (columns : Bool) {order keys p q : List ℕ} {k l : ℕ} → Centred rects columns keys → InOrder (count rects) keys order
-    → SweptTo rects limit order keys p k l q → count rects ≤ k → JoinedNear rects limit columns p q
-sweep-done {rects} {limit} columns {keys = keys} {p} C K B h =
-    record { pairs = between-known (sweep-end (B .pairs) h (K .stands)) (λ i j di dj s. inl (⊎-elim inl (λ t. inr (by-key i j di dj t)) s)) }
+-- once all rows are done, all near boxes are joined
+pub sweep-done : {rects : List ℕ} {limit : ℕ} (columns : Bool) {order keys p q : List ℕ} {k l : ℕ} → PassedBoxes rects → Centred rects columns keys
+    → InOrder (count rects) keys order → SweptTo rects limit order keys p k l q → count rects ≤ k → JoinedNear rects limit columns p q
+sweep-done {rects} {limit} columns {order} {keys} {p} {q} P C K B h =
+    record { pairs = between-known (B .before) (λ i j di dj s. ⊎-elim inl (λ t. inr (near-joined limit P K q next i j di dj (by-key i j di dj t))) s) }
   where
     by-key : (i j : ℕ) → Below (count rects) i → Below (count rects) j → Near rects limit (λ i. centreIn columns (rectAt rects i)) i j
         → Near rects limit (λ i. getD keys i 0) i j
     by-key i j di dj t = record { alike = t .alike; close = rw (C i di, C j dj) (t .close) }
+
+    next : (a b : ℕ) → NextNear rects limit order keys a b → root q (getD order a 0) ≡ root q (getD order b 0)
+    next a b N = B .pairs a b N (inl (omega (arith, N .behind, N .inside)))
 
 -- ---- both sweeps
 

@@ -9,7 +9,7 @@ use lib.ListN.{length, getD}
 use Rattle.lists.specs.Lists.{concat, written}
 use Rattle.sets.specs.Closed.{Below}
 use Rattle.sets.specs.Listing.{endsFrom}
-use Rattle.sets.specs.Steps.{root, Between, Swept}
+use Rattle.sets.specs.Steps.{root, Between}
 use Rattle.sorted.specs.Ordered.{InOrder}
 use Rattle.rects.specs.declared.Rect.{Rect}
 use Rattle.rects.specs.Rects.{count, widthOf, rectAt, distance}
@@ -54,9 +54,22 @@ pub record Sweep (rects : List ℕ) (limit : ℕ) (order keys : List ℕ) : Type
 abbrev pub JoinedSo : List ℕ → ℕ → (ℕ → ℕ → Type 0) → List ℕ → Type 0
 JoinedSo rects limit S p = Between (count rects) (Below (count rects)) S (Touch rects limit) p
 
--- The pairs of the order before the places k, l were tried: near ones are joined, as is all that was joined in p₀.
+-- The width of the box at a place of an order.
+abbrev pub widthAt : List ℕ → List ℕ → ℕ → ℕ
+widthAt rects order a = widthOf (rectAt rects (getD order a 0))
+
+-- The boxes at places a < b of an order are near, and none between them has the width of the first: a row reaches to the first that has.
+pub record NextNear (rects : List ℕ) (limit : ℕ) (order keys : List ℕ) (a b : ℕ) : Type 0 where
+  pub behind : a < b
+  pub inside : b < count rects
+  pub near : Near rects limit (λ i. getD keys i 0) (getD order a 0) (getD order b 0)
+  pub first : (c : ℕ) → a < c → c < b → widthAt rects order c ≡ widthAt rects order a → ⊥
+
+-- The pairs of the order before the places k, l were tried: near ones are joined, up to the first of the same width, as is all that was
+-- joined in p₀.
 pub record SweptTo (rects : List ℕ) (limit : ℕ) (order keys p₀ : List ℕ) (k l : ℕ) (p : List ℕ) : Type 0 where
-  pub pairs : JoinedSo rects limit (Swept (λ i j. root p₀ i ≡ root p₀ j) (Near rects limit (λ i. getD keys i 0)) order k l) p
+  pub before : JoinedSo rects limit (λ i j. root p₀ i ≡ root p₀ j) p
+  pub pairs : (a b : ℕ) → NextNear rects limit order keys a b → (a < k) ⊎ ((a ≡ k) × (b < l)) → root p (getD order a 0) ≡ root p (getD order b 0)
 
 -- From place k of an order to before place e all are in one set.
 pub record OneSet (order : List ℕ) (k e : ℕ) (p : List ℕ) : Type 0 where

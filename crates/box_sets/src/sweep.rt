@@ -61,8 +61,9 @@ fn known_to(whole: bool, end: usize) -> usize
     if whole { end } else { 0 }
 }
 
-// Joins the box at place k of the order with every later one that is near and of similar width. From the first on that is out of reach,
-// none is near. All before place `from` are in one set with it; the result is the same for the next place.
+// Joins the box at place k of the order with every later one that is near and of similar width, up to the first of its own width: what is
+// near past that one is near to that one too. From the first on that is out of reach, none is near. All before place `from` are in one
+// set with it; the result is the same for the next place.
 fn join_row(
     rects: &[u32],
     limit: u64,
@@ -88,8 +89,12 @@ fn join_row(
         if last < keys[j] {
             return known_to(whole, l);
         }
-        whole = touch::join_similar(rects, parents, i, j, width) & whole;
+        let other = touch::size_at(rects, j);
+        whole = touch::join_similar(parents, n, i, j, width, other) & whole;
         l += 1;
+        if other == width {
+            return known_to(whole, l);
+        }
     }
     known_to(whole, l)
 }

@@ -38,18 +38,25 @@ pub fn size_at(rects: &[u32], j: usize) -> u32
     size(rects::rect_at(rects, j))
 }
 
-// Joins box j with box i, whose width is given, if their widths are similar. Are the two in one set now? Two with one parent were before.
-pub fn join_similar(rects: &[u32], parents: &mut [u32], i: usize, j: usize, width: u32) -> bool
-    requires { ⌜ PassedBoxes (now rects) × Parents (count (now rects)) (now parents) × (i < count (now rects)) × (j < count (now rects)) ⌝ }
+// Joins box j with box i, of n, if their widths, which are given, are similar. Are the two in one set now? Two with one parent were before.
+pub fn join_similar(
+    parents: &mut [u32],
+    n: usize,
+    i: usize,
+    j: usize,
+    width: u32,
+    other: u32,
+) -> bool
+    requires { ⌜ Parents n (now parents) × (i < n) × (j < n) ⌝ }
     ensures { λ r.
-        ⌜ Joined (count (now (rects .entry))) (now (parents .entry)) i j (similar width (widthOf (rectAt (now (rects .entry)) j))) (now (parents .exit))
+        ⌜ Joined n (now (parents .entry)) i j (similar width other) (now (parents .exit))
         × (r ≡ true → root (now (parents .exit)) i ≡ root (now (parents .exit)) j) ⌝ }
 {
     if parents[i] == parents[j] {
         return true;
     }
-    if similar(width, size_at(rects, j)) {
-        sets::join(parents, rects.len() / 4, i, j);
+    if similar(width, other) {
+        sets::join(parents, n, i, j);
         return true;
     }
     false

@@ -1,4 +1,4 @@
--- `sweep::join_near` meets its contract: each turn tries one row more of the order, and all rows are all near pairs.
+-- `sweep::join_near` meets its contract: each turn tries one row more of the order, and once all rows are done all near pairs are joined.
 use mathlib.Core.Path.{_≡_, refl, _∙_}
 use mathlib.Core.List.{List}
 use Prim.Native.Nat.{ℕ, _+_, _-_, _≤_, _<_, zero-le}
@@ -66,7 +66,7 @@ same-length-4 : tie.Need-same-length-4 Inv-loop μ-loop
 same-length-4 c = c .before .before .before .before .before .before .before .before .arrange .kept .1 .1 .1 .1 .0
 
 returns : tie.Need-returns Inv-loop μ-loop
-returns c = (sweep-done (c .before .before .before .before .before .before .before .before .before .before .before .before .before .before .before .before .before .args .columns) (c .before .before .before .before .before .before .before .before .arrange .ensures .0) (c .before .before .before .before .before .before .before .before .arrange .ensures .1) (c .before .loop .inv .swept) (c .loop-test .left), c .before .before .before .before .before .before .before .before .arrange .ensures .2)
+returns c = (sweep-done (c .before .before .before .before .before .before .before .before .before .before .before .before .before .before .before .before .before .args .columns) (c .before .before .before .before .before .before .before .before .before .before .before .before .before .before .before .before .before .pre .1) (c .before .before .before .before .before .before .before .before .arrange .ensures .0) (c .before .before .before .before .before .before .before .before .arrange .ensures .1) (c .before .loop .inv .swept) (c .loop-test .left), c .before .before .before .before .before .before .before .before .arrange .ensures .2)
 
 pub join-near-spec : {M : Type 1} → statement M
 join-near-spec =
