@@ -9,7 +9,7 @@ use lib.ListN.{getD}
 use borrow.Author.Tests.{leb-true, le-leb}
 use Rattle.rects.specs.Rects.{count, widthOf, rectAt}
 use Rattle.sets.specs.Steps.{root}
-use Rattle.sorted.specs.Ordered.{InOrder, keyAt}
+use Rattle.sorted.specs.Steps.{InOrder, keyAt}
 use Rattle.box_sets.specs.Boxes.{similar}
 use Rattle.box_sets.specs.Steps.{PassedBoxes, Near, widthAt, NextNear}
 use Rattle.box_sets.proofs.Similar.{similar-comm, similar-itself}

@@ -10,7 +10,7 @@ use Rattle.lists.specs.Lists.{concat, written}
 use Rattle.sets.specs.Closed.{Below}
 use Rattle.sets.specs.Listing.{endsFrom}
 use Rattle.sets.specs.Steps.{root, Between}
-use Rattle.sorted.specs.Ordered.{InOrder}
+use Rattle.sorted.specs.Steps.{InOrder}
 use Rattle.rects.specs.declared.Rect.{Rect}
 use Rattle.rects.specs.Rects.{count, widthOf, rectAt, distance}
 use Rattle.rects.specs.Steps.{Inside}

@@ -8,7 +8,7 @@ ghost use lib.ListN.{length, drop};
 ghost use Rattle.rects.specs.Rects.{count};
 ghost use Rattle.sets.specs.Closed.{Below};
 ghost use Rattle.sets.specs.Steps.{Joins, Room};
-ghost use Rattle.sorted.specs.Ordered.{SortRoom};
+ghost use Rattle.sorted.specs.Steps.{SortRoom};
 ghost use Rattle.box_sets.specs.Boxes.{Touch};
 ghost use Rattle.box_sets.specs.Steps.{PassedBoxes, Connected};
 

@@ -5,7 +5,7 @@ ghost use mathlib.Core.Bool.{cond};
 ghost use Prim.Native.Nat.{_+_, _≤_, _<_, _^_, max};
 ghost use lib.ListN.{length, drop};
 ghost use Rattle.rects.specs.Rects.{count};
-ghost use Rattle.sorted.specs.Ordered.{SortRoom, InOrder};
+ghost use Rattle.sorted.specs.Steps.{SortRoom, InOrder};
 ghost use Rattle.box_sets.specs.Steps.{PassedBoxes, centreIn, Centred, Sweep, SweptTo, OneSet, RowDone, JoinedSo, JoinedNear};
 use crate::touch;
 use rects::Rect;

@@ -16,7 +16,7 @@ use Rattle.sets.proofs.Joins.{joins-none, joins-more, joins-same, joins-exchang
 use Rattle.meeting.specs.declared.segment.Segment.{Segment}
 use Rattle.meeting.specs.Segments.{opposite, spanHolds, touches}
 use Rattle.meeting.specs.Meeting.{Touch}
-use Rattle.crossings.specs.Crossings.{Tried}
+use Rattle.crossings.specs.Steps.{Tried}
 use Rattle.meeting.proofs.Rulings.{touches-comm}
 
 -- two that touch are opposite

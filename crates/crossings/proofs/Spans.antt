@@ -13,12 +13,12 @@ use Rattle.lists.proofs.Every.{and-first, and-second, and-both}
 use Rattle.rects.specs.declared.Rect.{Rect}
 use Rattle.rects.specs.Rects.{rectAt}
 use Rattle.rects.specs.Steps.{Inside}
-use Rattle.sorted.specs.Ordered.{keyAt, FirstAtLeast}
+use Rattle.sorted.specs.Steps.{keyAt, FirstAtLeast}
 use Rattle.meeting.specs.declared.segment.Segment.{Segment}
 use Rattle.meeting.specs.Segments.{segmentOf, rulingAt, opposite, spanHolds, touches}
 use Rattle.meeting.specs.Meeting.{Touch}
 use Rattle.meeting.specs.Steps.{Given}
-use Rattle.crossings.specs.Crossings.{crossKey, firstCentre, lastCentre, RulingsOrdered}
+use Rattle.crossings.specs.Steps.{crossKey, firstCentre, lastCentre, RulingsOrdered}
 use Rattle.crossings.proofs.Crossing.{lies, Met}
 
 small-centre : (r : Rect) (d : ℕ) → Inside 8192 8192 r → segmentOf r d .centre2 < 16384

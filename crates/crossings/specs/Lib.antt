@@ -1,2 +1,2 @@
--- What a reader must believe of `crossings`: that `Connected` lists the closed sets of `meeting`. The rest only functions cite.
-pub mod Crossings
+-- The closed sets of rulings are those of `meeting`. What only functions cite is not needed to read the contracts.
+pub mod Steps

@@ -9,7 +9,7 @@ ghost use Rattle.sets.specs.Steps.{Joins, Joined, Parents, Room};
 ghost use Rattle.meeting.specs.Segments.{rulingAt, spanHolds};
 ghost use Rattle.meeting.specs.Meeting.{Touch};
 ghost use Rattle.meeting.specs.Steps.{Given};
-ghost use Rattle.crossings.specs.Crossings.{crossKey, firstCentre, lastCentre, RulingsKeyed, RulingsOrdered, Tried, Connected};
+ghost use Rattle.crossings.specs.Steps.{crossKey, firstCentre, lastCentre, RulingsKeyed, RulingsOrdered, Tried, Connected};
 use meeting::segment;
 use meeting::segment::Segment;
 

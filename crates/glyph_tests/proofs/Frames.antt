@@ -1,8 +1,8 @@
 -- The frame lies inside its glyph box, in order, since the first line over the limit stands no later than the last.
-use mathlib.Core.Path.{_≡_, refl, sym, ap, ap₂, _∙_}
-use mathlib.Core.Bool.{Bool, true, false, cond, _&&_}
+use mathlib.Core.Path.{_≡_, refl, sym, ap, _∙_}
+use mathlib.Core.Bool.{Bool, true, false, cond}
 use mathlib.Core.List.{List}
-use Prim.Native.Nat.{ℕ, suc, _+_, _-_, _≤_, _<_}
+use Prim.Native.Nat.{ℕ, _+_, _-_, _≤_, _<_}
 use native.Mathlib.Omega.{arith}
 use lib.Dec.{ltb}
 use lib.Ieee.{Float, binary64, mul}
@@ -12,7 +12,7 @@ use Rattle.math.specs.Sum.{whole}
 use Rattle.rects.specs.Rects.{widthOf, heightOf}
 use Rattle.rects.specs.Steps.{Inside}
 use Rattle.rects.specs.declared.Rect.{Rect}
-use Rattle.ink.specs.Ink.{Ink, inkAt, rowInk, columnInk}
+use Rattle.ink.specs.Ink.{Ink, rowInk, columnInk}
 use Rattle.ink.specs.Steps.{Readable}
 use Rattle.ink.specs.Places.{over, firstPlace, lastEnd}
 use Rattle.ink.proofs.Counts.{readable-inside}

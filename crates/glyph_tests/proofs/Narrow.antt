@@ -1,8 +1,8 @@
 -- A glyph box that is narrower than the whole part of the least width is passed over by its first test.
 use mathlib.Core.Path.{_≡_, refl, sym, _∙_}
-use mathlib.Core.Bool.{Bool, true, false, true≢false}
-use Prim.Native.Nat.{ℕ, _+_, _*_, _/_, _^_, _≤_, _<_, min}
-use native.Mathlib.Nat.{mul-one, mul-assoc, mul-comm, le-trans, lt-of-lt-of-le, le-div-iff-mul-le, mul-lt-mul-of-pos-right}
+use mathlib.Core.Bool.{true, false, true≢false}
+use Prim.Native.Nat.{ℕ, _+_, _*_, _/_, _≤_, _<_}
+use native.Mathlib.Nat.{mul-one, mul-assoc, mul-comm, lt-of-lt-of-le, le-div-iff-mul-le, mul-lt-mul-of-pos-right}
 use native.Mathlib.Omega.{arith}
 use lib.Ieee.{Float, nan, inf, fin, up, down, lt, toUnsigned}
 use lib.Ieee.Exact.{HasValue}

@@ -1,6 +1,6 @@
 -- Each way out of the tests on one glyph box: the tests before it let the glyph box through, and its own did not.
-use mathlib.Core.Path.{_≡_, refl, sym, ap, ap₂, _∙_}
-use mathlib.Core.Bool.{Bool, true, false, cond, not, _||_}
+use mathlib.Core.Path.{_≡_, sym, ap, ap₂, _∙_}
+use mathlib.Core.Bool.{Bool, true, false, cond, not}
 use Prim.Native.Nat.{ℕ}
 use lib.Ieee.{Float, lt, le}
 use Rattle.rects.specs.Rects.{widthOf, heightOf}
@@ -10,7 +10,7 @@ use Rattle.glyph_tests.specs.declared.limits.Limits.{Limits}
 use Rattle.glyph_tests.specs.declared.found.CheckBox.{CheckBox}
 use Rattle.glyph_tests.specs.declared.found.Found.{Found}
 use Rattle.glyph_tests.specs.declared.found.Found.the-variants.{PassedOver, Box}
-use Rattle.glyph_tests.specs.Tests.{sizeMissed, hasFrame, frameOf, aspectMissed, edgeCoverage, innerInk, tooFull, markOf}
+use Rattle.glyph_tests.specs.Tests.{sizeMissed, hasFrame, aspectMissed, edgeCoverage, innerInk, markOf}
 use Rattle.glyph_tests.specs.Glyph.{frameMissed, boxIn, passedOver, trimmed}
 use Rattle.glyph_tests.specs.Steps.{foundIn, foundOf}
 

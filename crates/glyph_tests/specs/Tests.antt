@@ -1,5 +1,5 @@
 -- The steps of `boxes` for one glyph box, in the Rust's order. A test that ends in Missed passes the glyph box over where it holds, by IEEE comparison.
-use mathlib.Core.Bool.{Bool, cond, not, _&&_, _||_}
+use mathlib.Core.Bool.{Bool, cond, _&&_, _||_}
 use Prim.Native.Nat.{ℕ, _+_, _-_, _*_, _/_, min, max}
 use lib.Dec.{ltb}
 use lib.Ieee.{Float, binary64, lt, le, sub, mul, div}

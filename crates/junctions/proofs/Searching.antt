@@ -13,11 +13,11 @@ use Rattle.lists.specs.Lists.{any}
 use Rattle.lists.proofs.Every.{and-first, and-second}
 use Rattle.lists.proofs.Keep.{any-true, true-any, in-at, at-in}
 use Rattle.rects.specs.Rects.{distance}
-use Rattle.sorted.specs.Ordered.{keyAt, FirstAtLeast}
+use Rattle.sorted.specs.Steps.{offset, keyAt, FirstAtLeast}
 use Rattle.sorted.proofs.Arranged.{at-or-behind}
 use Rattle.meeting.specs.declared.segment.Segment.{Segment}
 use Rattle.meeting.specs.Segments.{opposite, spanHolds, joinsEnd}
-use Rattle.junctions.specs.Ends.{offset, centreKey, firstKey, lastKey, MembersOrdered}
+use Rattle.junctions.specs.Steps.{centreKey, firstKey, lastKey, MembersOrdered}
 
 -- a test that can't pass fails
 fails : (b : Bool) → (b ≡ true → ⊥) → b ≡ false

@@ -1,2 +1,2 @@
--- What the functions of `junctions` say to each other; the joined ends and their share are of `meeting`.
-pub mod Ends
+-- The joined ends and their share are those of `meeting`. What only functions cite is not needed to read the contracts.
+pub mod Steps

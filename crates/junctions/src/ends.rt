@@ -7,7 +7,7 @@ ghost use Rattle.lists.specs.Lists.{any, one};
 ghost use Rattle.meeting.specs.Segments.{rulingAt, joinsEnd};
 ghost use Rattle.meeting.specs.Meeting.{endJoined, joinedEnds, shareOf};
 ghost use Rattle.meeting.specs.Steps.{Given, IndexesBelow};
-ghost use Rattle.junctions.specs.Ends.{offset, centreKey, firstKey, lastKey, MembersKeyed, MembersOrdered};
+ghost use Rattle.junctions.specs.Steps.{centreKey, firstKey, lastKey, MembersKeyed, MembersOrdered};
 use meeting::segment;
 use meeting::segment::Segment;
 
@@ -26,18 +26,11 @@ fn both(first: bool, second: bool) -> usize
     0
 }
 
-// What is added to the doubled centres of a direction, so that vertical rulings stand behind all horizontal ones.
-fn offset(horizontal: bool) -> u64
-    ensures { λ o. ⌜ (o ≡ offset horizontal) × (o ≤ 2 ^ 34) ⌝ }
-{
-    if horizontal { 0 } else { 17179869184 }
-}
-
 // Where a ruling stands among the members of its set.
 fn key_of(a: Segment) -> u64
     ensures { λ k. ⌜ k ≡ centreKey a ⌝ }
 {
-    offset(a.horizontal) + (a.centre2 as u64)
+    sorted::offset(a.horizontal) + (a.centre2 as u64)
 }
 
 // The first and the last key of those that may join an end of ruling a.
@@ -45,7 +38,7 @@ fn first_key(a: Segment, end: u32, join: u64) -> u64
     requires { ⌜ join < 2 ^ 32 ⌝ }
     ensures { λ k. ⌜ k ≡ firstKey join end a ⌝ }
 {
-    let across = offset(!a.horizontal);
+    let across = sorted::offset(!a.horizontal);
     across + segment::saturating_sub(2 * (end as u64), 2 * join + 2)
 }
 
@@ -53,7 +46,7 @@ fn last_key(a: Segment, end: u32, join: u64) -> u64
     requires { ⌜ join < 2 ^ 32 ⌝ }
     ensures { λ k. ⌜ k ≡ lastKey join end a ⌝ }
 {
-    let across = offset(!a.horizontal);
+    let across = sorted::offset(!a.horizontal);
     across + (2 * (end as u64) + (2 * join + 2))
 }
 

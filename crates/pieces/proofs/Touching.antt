@@ -9,7 +9,8 @@ use borrow.Author.Tests.{leb-true, le-leb}
 use Rattle.lists.proofs.Every.{and-first, and-second}
 use Rattle.rects.specs.declared.Rect.{Rect}
 use Rattle.pieces.specs.Pieces.{horizontal, centre2, start, end, agree, within, touching}
-use Rattle.pieces.specs.Steps.{Ordered, centreIn, startIn, endIn, offsetIn, sweepKey, lastKey}
+use Rattle.sorted.specs.Steps.{offset}
+use Rattle.pieces.specs.Steps.{Ordered, centreIn, startIn, endIn, sweepKey, lastKey}
 
 -- touching, with the two directions as variables
 abbrev touchingIn : Bool → Bool → ℕ → ℕ → Rect → Rect → Bool
@@ -63,8 +64,8 @@ module _ (across gap : ℕ) (a b : Rect) where
       → sweepKey b ≤ lastKey gap (horizontal a) a → touching across gap a b ≡ within (2 * across) (centreIn (horizontal a) a) (centreIn (horizontal a) b)
   window-touching o g ea sb first last = touching-is across gap a b ∙ go (horizontal a) (horizontal b) ea sb first last
     where
-      go : (h k : Bool) → endIn h a < 2 ^ 32 → startIn k b < 2 ^ 32 → startIn h a + offsetIn h ≤ startIn k b + offsetIn k
-          → startIn k b + offsetIn k ≤ lastKey gap h a → touchingIn h k (2 * across) gap a b ≡ within (2 * across) (centreIn h a) (centreIn h b)
+      go : (h k : Bool) → endIn h a < 2 ^ 32 → startIn k b < 2 ^ 32 → startIn h a + offset h ≤ startIn k b + offset k
+          → startIn k b + offset k ≤ lastKey gap h a → touchingIn h k (2 * across) gap a b ≡ within (2 * across) (centreIn h a) (centreIn h b)
       go true true ea sb first last =
           meet (within (2 * across) (centreIn true a) (centreIn true b)) (a .x0) (a .x1) (b .x0) (b .x1) gap (omega arith) (o .wide) (omega arith)
       go true false ea sb first last = absurd (omega arith)
@@ -76,7 +77,7 @@ module _ (across gap : ℕ) (a b : Rect) where
   pub past-window : lastKey gap (horizontal a) a < sweepKey b → touching across gap a b ≡ true → ⊥
   past-window late t = go (horizontal a) (horizontal b) late (sym (touching-is across gap a b) ∙ t)
     where
-      go : (h k : Bool) → lastKey gap h a < startIn k b + offsetIn k → touchingIn h k (2 * across) gap a b ≡ true → ⊥
+      go : (h k : Bool) → lastKey gap h a < startIn k b + offset k → touchingIn h k (2 * across) gap a b ≡ true → ⊥
       go true true late e =
           let l = leb-true (max (a .x0) (b .x0)) (min (a .x1) (b .x1) + 1 + gap) (and-second (within (2 * across) (centreIn true a) (centreIn true b)) _ e) in
           omega arith

@@ -6,7 +6,7 @@ use mathlib.Core.List.{List}
 use lib.ListN.{getD}
 use Rattle.sets.specs.Closed.{Below}
 use Rattle.sets.specs.Steps.{Between, Swept}
-use Rattle.sorted.specs.Ordered.{InOrder}
+use Rattle.sorted.specs.Steps.{offset, InOrder}
 use Rattle.rects.specs.declared.Rect.{Rect}
 use Rattle.rects.specs.Rects.{count, rectAt}
 use Rattle.pieces.specs.Pieces.{horizontal, Touch}
@@ -30,17 +30,13 @@ startIn h r = cond h (r .x0) (r .y0)
 abbrev pub endIn : Bool → Rect → ℕ
 endIn h r = cond h (r .x1) (r .y1)
 
--- What is added to the places of a direction, so that all vertical pieces stand behind the horizontal ones.
-abbrev pub offsetIn : Bool → ℕ
-offsetIn h = cond h 0 (2 ^ 34)
-
 -- Where a piece stands in the sweep.
 abbrev pub sweepKey : Rect → ℕ
-sweepKey r = startIn (horizontal r) r + offsetIn (horizontal r)
+sweepKey r = startIn (horizontal r) r + offset (horizontal r)
 
 -- The last key of those that a piece of the given direction may reach.
 abbrev pub lastKey : ℕ → Bool → Rect → ℕ
-lastKey gap h r = endIn h r + (gap + 1) + offsetIn h
+lastKey gap h r = endIn h r + (gap + 1) + offset h
 
 -- The key of a piece, of which the start fits 32 bits.
 pub record KeyOf (r : Rect) (k : ℕ) : Type 0 where

@@ -6,9 +6,9 @@ ghost use lib.ListN.{length, getD, drop};
 ghost use Rattle.rects.specs.Rects.{count, rectAt};
 ghost use Rattle.sets.specs.Closed.{Below};
 ghost use Rattle.sets.specs.Steps.{Joins, Joined, Parents, Room};
-ghost use Rattle.sorted.specs.Ordered.{SortRoom};
+ghost use Rattle.sorted.specs.Steps.{SortRoom};
 ghost use Rattle.pieces.specs.Pieces.{horizontal, within, Touch};
-ghost use Rattle.pieces.specs.Steps.{Ordered, AllOrdered, centreIn, startIn, endIn, offsetIn, lastKey, KeyOf, Keyed, Sweep, SweptTo};
+ghost use Rattle.pieces.specs.Steps.{Ordered, AllOrdered, centreIn, startIn, endIn, lastKey, KeyOf, Keyed, Sweep, SweptTo};
 use rects::Rect;
 
 // At least as wide as high?
@@ -70,20 +70,13 @@ fn near(a: u64, b: u64, reach: u64) -> bool
     (a <= b + reach) & (b <= a + reach)
 }
 
-// What is added to the places of a direction, so that vertical pieces are swept behind all horizontal ones.
-fn offset(direction: bool) -> u64
-    ensures { λ o. ⌜ (o ≡ offsetIn direction) × (o ≤ 2 ^ 34) ⌝ }
-{
-    if direction { 0 } else { 17179869184 }
-}
-
 // Where a piece stands in the sweep: at its start.
 fn key_of(r: Rect) -> u64
     requires { ⌜ Ordered r ⌝ }
     ensures { λ k. ⌜ KeyOf r k ⌝ }
 {
     let direction = is_horizontal(r);
-    start(r, direction) + offset(direction)
+    start(r, direction) + sorted::offset(direction)
 }
 
 // The last key of those that a piece may reach over the gap behind its end.
@@ -91,7 +84,7 @@ fn last_key(a: Rect, direction: bool, gap: u32) -> u64
     ensures { λ k. ⌜ (k ≡ lastKey gap direction a) × (endIn direction a < 2 ^ 32) ⌝ }
 {
     let past = gap as u64 + 1;
-    end(a, direction) + past + offset(direction)
+    end(a, direction) + past + sorted::offset(direction)
 }
 
 // Writes the key of each piece.

@@ -1,6 +1,6 @@
 -- Pairs tried in any order, and not all of them: what is joined hangs together by the rule, and what the rule holds of is joined in the end.
 use mathlib.Core.Path.{_≡_, refl, sym, ap, _∙_}
-use mathlib.Core.Bool.{Bool, true, false, false≢true}
+use mathlib.Core.Bool.{Bool, true}
 use mathlib.Core.Logic.{_⊎_, inl, inr, ⊎-elim}
 use mathlib.Core.List.{List}
 use Prim.Native.Nat.{ℕ, _+_, _≤_, _<_}
@@ -8,7 +8,7 @@ use native.Mathlib.Decide.{decLt, ℕ-discrete}
 use native.Mathlib.Omega.{arith}
 use lib.ListN.{getD}
 use Rattle.lists.specs.Lists.{below, written}
-use Rattle.sets.specs.Closed.{Touching, Chain, here}
+use Rattle.sets.specs.Closed.{Touching, Chain}
 use Rattle.sets.specs.Steps.{Joins, Room, Parents, root, Joined, Between, Swept, known, tried}
 use Rattle.sets.proofs.Chains.{chain-step, chain-map}
 use Rattle.sets.proofs.Joins.{joins-none, joins-more}
@@ -137,24 +137,6 @@ module _ {n : ℕ} {D : ℕ → Type 0} {S T R : ℕ → ℕ → Type 0} {order 
             | no e ↦ inl (inl (tried t ea eb o (inr (h .0, let w = h .1 in omega arith))))
           ]
 
-  -- the rest of a row does not touch: the next begins
-  pub sweep-row : {k l : ℕ} → Between n D (Swept S T order k l) R p → ((b : ℕ) → k < b → l ≤ b → D (getD order b 0) → Touching T (getD order k 0) (getD order b 0) → ⊥)
-      → Between n D (Swept S T order (k + 1) (k + 2)) R p
-  sweep-row {k} {l} B rest = between-known B (λ i j di dj s. inl (back i j dj s))
-    where
-      in-row : (i j : ℕ) {a b : ℕ} → D j → Touching T i j → getD order a 0 ≡ i → getD order b 0 ≡ j → a < b → a ≡ k → Swept S T order k l i j
-      in-row i j {a} {b} dj t ea eb o e =
-          elim (decLt b l) [
-            | yes h ↦ tried t ea eb o (inr (e, h))
-            | no h ↦ absurd (rest b (omega arith) (omega arith) (rw (sym eb) at dj) (rw (sym ea ∙ ap (λ (x : ℕ). getD order x 0) e, sym eb) at t))
-          ]
-
-      back : (i j : ℕ) → D j → Swept S T order (k + 1) (k + 2) i j → Swept S T order k l i j
-      back i j dj (known s) = known s
-      back i j dj (tried {a = a} {b = b} t ea eb o (inl h)) =
-          elim (ℕ-discrete a k) [ yes e ↦ in-row i j dj t ea eb o e | no e ↦ tried t ea eb o (inl (omega arith)) ]
-      back i j dj (tried {a = a} {b = b} t ea eb o (inr h)) = absurd (let x = h .0 in let y = h .1 in omega arith)
-
 -- each index of the domain stands in an order
 abbrev pub Stands : ℕ → (ℕ → Type 0) → List ℕ → Type 0
 Stands n D order = (i : ℕ) → D i → (a : ℕ) × (a < n) × (getD order a 0 ≡ i)
@@ -184,7 +166,7 @@ sweep-end {n} {D} {S} {T} {order = order} {p} {k} {l} B h stands = between-known
         same : (a b : ℕ) → (a < b → ⊥) → (b < a → ⊥) → a ≡ b
         same a b o f = omega arith
 
--- the same end of a row where each index stands among the first n places: what is past those says nothing
+-- the rest of a row does not touch: the next begins. Each index stands among the first n places, so what is past those says nothing
 pub sweep-row-in : {n : ℕ} {D : ℕ → Type 0} {S T R : ℕ → ℕ → Type 0} {order p : List ℕ} {k l : ℕ} → Between n D (Swept S T order k l) R p → Stands n D order
     → ((b : ℕ) → k < b → l ≤ b → b < n → Touching T (getD order k 0) (getD order b 0) → ⊥) → Between n D (Swept S T order (k + 1) (k + 2)) R p
 sweep-row-in {n} {D} {S} {T} {order = order} {p} {k} {l} B stands rest = between-known B (λ i j di dj s. back i j di dj s)

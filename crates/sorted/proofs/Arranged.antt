@@ -10,7 +10,7 @@ use lib.Seq.{drop-at, getD-take, length-take-le}
 use Rattle.lists.specs.Lists.{written}
 use Rattle.order.specs.Order as Order
 use Rattle.order.proofs.Computed.{sorted-by, sorted-length}
-use Rattle.sorted.specs.Ordered.{keyAt, InOrder}
+use Rattle.sorted.specs.Steps.{keyAt, InOrder}
 
 module _ (n : ℕ) (keys order order′ : List ℕ) (room : n ≤ length keys)
     (e : order′ ≡ Order.sortedIndexes (take (n - 0) keys) ++ drop (length (take (n - 0) keys)) order) where

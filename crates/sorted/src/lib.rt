@@ -1,8 +1,16 @@
 // Indexes in the order of their keys, and the first place in it from which the keys are large enough: what is within bounds is found without
 // a look at the rest.
 ghost use mathlib.Core.Path.{_≡_};
+ghost use Prim.Native.Nat.{_≤_, _^_};
 ghost use lib.ListN.{drop};
-ghost use Rattle.sorted.specs.Ordered.{SortRoom, InOrder, FirstAtLeast};
+ghost use Rattle.sorted.specs.Steps.{offset, SortRoom, InOrder, FirstAtLeast};
+
+// What is added to the keys of the second of two kinds, so that these stand behind all of the first, whose keys are smaller.
+pub fn offset(first: bool) -> u64
+    ensures { λ o. ⌜ (o ≡ offset first) × (o ≤ 2 ^ 34) ⌝ }
+{
+    if first { 0 } else { 17179869184 }
+}
 
 // The indexes below n in the order of their keys, from the front of `order`, by way of `work`. What stands behind them is kept.
 pub fn arrange(keys: &[u64], n: usize, order: &mut [u32], work: &mut [u32])

@@ -19,7 +19,7 @@ use Rattle.meeting.specs.Meeting.{touch, rulingSets}
 use Rattle.shapes.specs.Shapes.{isTable}
 use Rattle.table_lists.specs.Answers.{tableNumbers}
 use Rattle.meeting.specs.Steps.{IndexesBelow}
-use Rattle.crossings.specs.Crossings.{Connected}
+use Rattle.crossings.specs.Steps.{Connected}
 use Rattle.table_lists.specs.Steps.{SetsIn, Numbers, Chose, FactsWritten}
 use Rattle.tables.specs.Call.{setAt}
 use Rattle.tables.specs.Steps.{Lists, Filled}

@@ -12,7 +12,7 @@ use Rattle.sets.specs.Steps.{Joins, Listing, Room, root, classes}
 use Rattle.sets.specs.Listing.{endsFrom}
 use Rattle.sets.proofs.Listings.{joins-closedSets}
 use Rattle.sets.proofs.Sizes.{classes-total}
-use Rattle.sorted.specs.Ordered.{SortRoom}
+use Rattle.sorted.specs.Steps.{SortRoom}
 use Rattle.sorted.proofs.Arranged.{written-over}
 use Rattle.box_sets.specs.Boxes.{touch, Touch}
 use Rattle.box_sets.specs.Steps.{Connected}

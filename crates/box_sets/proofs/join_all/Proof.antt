@@ -9,7 +9,7 @@ use Rattle.rects.specs.Rects.{count}
 use Rattle.sets.specs.Closed.{Below}
 use Rattle.sets.specs.Steps.{Room}
 use Rattle.sets.proofs.Sweeps.{between-begin}
-use Rattle.sorted.specs.Ordered.{SortRoom}
+use Rattle.sorted.specs.Steps.{SortRoom}
 use Rattle.box_sets.specs.Boxes.{Touch}
 use Rattle.box_sets.specs.Steps.{JoinedSo}
 use Rattle.box_sets.proofs.Sweeps.{both-sweeps, sweep-again}

@@ -4,7 +4,7 @@ use Prim.Native.Nat.{ℕ, _+_, _-_, _/_, _≤_, _<_, zero-le}
 use native.Mathlib.Nat.{le-refl}
 use native.Mathlib.Omega.{arith}
 use lib.ListN.{getD}
-use Rattle.sorted.specs.Ordered.{keyAt, InOrder, FirstAtLeast}
+use Rattle.sorted.specs.Steps.{keyAt, InOrder, FirstAtLeast}
 use Rattle.sorted.proofs.Arranged.{at-or-behind}
 use Rattle.sorted.proofs.first_at_least.Statement.{statement}
 use Rattle.sorted.proofs.first_at_least.Tie as tie

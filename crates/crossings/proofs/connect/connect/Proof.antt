@@ -1,7 +1,7 @@
 -- `connect::connect` meets its contract: the roots of all joined pairs are the closed sets. The order of the rulings, which stood in the member list, is
 -- written over, since every index is a member.
-use mathlib.Core.Path.{_≡_, sym, ap, _∙_}
-use mathlib.Core.List.{List, _++_}
+use mathlib.Core.Path.{_≡_, ap, _∙_}
+use mathlib.Core.List.{List}
 use Prim.Native.Nat.{ℕ, _≤_}
 use native.Mathlib.Omega.{arith}
 use lib.ListN.{length, drop}
@@ -14,7 +14,7 @@ use Rattle.sets.proofs.Sizes.{classes-total, classes-room}
 use Rattle.meeting.specs.declared.segment.Segment.{Segment}
 use Rattle.meeting.specs.Segments.{rulingAt}
 use Rattle.meeting.specs.Meeting.{touch, Touch}
-use Rattle.crossings.specs.Crossings.{Connected}
+use Rattle.crossings.specs.Steps.{Connected}
 use borrow.Author.Needs.{needs}
 use Rattle.sorted.proofs.Arranged.{written-over}
 use Rattle.crossings.proofs.connect.connect.Statement.{statement}

@@ -9,7 +9,7 @@ use Rattle.sets.specs.Closed.{Below}
 use Rattle.sets.specs.Steps.{Joins, Room}
 use Rattle.meeting.specs.declared.segment.Segment.{Segment}
 use Rattle.meeting.specs.Segments.{rulingAt}
-use Rattle.crossings.specs.Crossings.{Tried}
+use Rattle.crossings.specs.Steps.{Tried}
 use Rattle.crossings.proofs.Crossing.{none-tried, all-tried}
 use Rattle.crossings.proofs.connect.join_all.Statement.{statement}
 use Rattle.crossings.proofs.connect.join_all.Tie as tie

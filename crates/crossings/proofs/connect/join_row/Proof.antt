@@ -9,10 +9,10 @@ use native.Mathlib.Omega.{arith}
 use lib.ListN.{length, getD}
 use Rattle.sets.specs.Closed.{Below}
 use Rattle.sets.specs.Steps.{Joins, Joined}
-use Rattle.sorted.specs.Ordered.{FirstAtLeast}
+use Rattle.sorted.specs.Steps.{FirstAtLeast}
 use Rattle.meeting.specs.declared.segment.Segment.{Segment}
 use Rattle.meeting.specs.Segments.{rulingAt, spanHolds}
-use Rattle.crossings.specs.Crossings.{firstCentre, lastCentre, RulingsOrdered, Tried}
+use Rattle.crossings.specs.Steps.{firstCentre, lastCentre, RulingsOrdered, Tried}
 use Rattle.crossings.proofs.Crossing.{InRow, row-none, row-begin, row-next, row-end}
 use Rattle.crossings.proofs.Spans.{centre-small, touches-held, between, far-before, all-met}
 use Rattle.crossings.proofs.connect.join_row.Statement.{statement}

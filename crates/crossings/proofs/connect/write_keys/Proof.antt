@@ -6,15 +6,15 @@ use lib.ListN.{length}
 use Rattle.sorted.proofs.Writing.{Writing, write-begin, write-turn}
 use Rattle.meeting.specs.declared.segment.Segment.{Segment}
 use Rattle.meeting.specs.Segments.{rulingAt}
-use Rattle.crossings.specs.Crossings.{crossKey}
+use Rattle.crossings.specs.Steps.{crossKey}
 use Rattle.crossings.proofs.connect.write_keys.Statement.{statement}
 use Rattle.crossings.proofs.connect.write_keys.Tie as tie
 
 module _ (s : ℕ → Segment) where
-  abbrev ruling-key : ℕ → ℕ
-  ruling-key i = crossKey (s i)
+  abbrev ruling-key : ℕ → ℕ → Type 0
+  ruling-key i v = v ≡ crossKey (s i)
 
-  read : {a : Segment} {v : ℕ} (i : ℕ) → a ≡ s i → v ≡ crossKey a → v ≡ ruling-key i
+  read : {a : Segment} {v : ℕ} (i : ℕ) → a ≡ s i → v ≡ crossKey a → ruling-key i v
   read i e f = f ∙ ap crossKey e
 
 abbrev Inv-loop : tie.InvT-loop

@@ -1,6 +1,6 @@
 -- `edges::edge_coverage` meets its contract: the bands are rectangles inside the frame, and the least of their shares is its coverage.
 use borrow.Author.Needs.{needs}
-use mathlib.Core.Path.{_≡_, refl, sym, ap, ap₂, _∙_}
+use mathlib.Core.Path.{ap, _∙_}
 use mathlib.Core.Bool.{true, false}
 use Rattle.rects.specs.declared.Rect.{Rect}
 use Rattle.ink.specs.Ink.{inkAt}

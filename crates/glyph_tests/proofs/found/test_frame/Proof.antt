@@ -1,6 +1,5 @@
 -- `found::test_frame` meets its contract: each way out is the test that it follows.
 use borrow.Author.Needs.{needs}
-use mathlib.Core.Path.{_≡_, refl, sym, ap, ap₂, _∙_}
 use Rattle.ink.specs.Ink.{inkAt}
 use Rattle.glyph_tests.proofs.Tests.{size-says, aspect-says, by-size, by-aspect, by-edges, by-ink, is-box}
 use Rattle.glyph_tests.proofs.found.test_frame.Statement.{statement}

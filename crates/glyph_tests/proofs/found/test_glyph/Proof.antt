@@ -1,9 +1,7 @@
 -- `found::test_glyph` meets its contract: the glyph box is passed over by its size, for lack of a frame, or by its frame.
 use borrow.Author.Needs.{needs}
-use mathlib.Core.Path.{_≡_, refl, sym, ap, ap₂, _∙_}
-use Rattle.rects.specs.declared.Rect.{Rect}
+use mathlib.Core.Path.{ap, _∙_}
 use Rattle.ink.specs.Ink.{inkAt}
-use Rattle.ink.specs.Steps.{Readable}
 use Rattle.glyph_tests.specs.Steps.{foundIn}
 use Rattle.glyph_tests.proofs.Frames.{frameless, has-one, frame-readable}
 use Rattle.glyph_tests.proofs.Tests.{size-says, by-loose-size, by-frame, by-its-frame}

@@ -1,6 +1,6 @@
 -- `frame::frame_of` meets its contract: the first line over the limit from each end.
 use borrow.Author.Needs.{needs}
-use Prim.Native.Nat.{ℕ, _+_, _-_, _≤_, _<_}
+use Prim.Native.Nat.{_-_, _≤_, _<_}
 use native.Mathlib.Omega.{arith}
 use Rattle.rects.specs.Rects.{widthOf, heightOf}
 use Rattle.ink.specs.Ink.{inkAt}

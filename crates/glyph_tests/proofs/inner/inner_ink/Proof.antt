@@ -1,6 +1,5 @@
 -- `inner::inner_ink` meets its contract: the inner half can be read, and has a place at least.
 use borrow.Author.Needs.{needs}
-use mathlib.Core.Path.{_≡_, refl, sym, ap, ap₂, _∙_}
 use native.Mathlib.Omega.{arith}
 use Rattle.ink.specs.Ink.{inkAt}
 use Rattle.ink.specs.Steps.{Readable}

@@ -1,8 +1,6 @@
 -- `limits::limits_of` meets its contract, field by field.
 use borrow.Author.Needs.{needs}
-use mathlib.Core.Path.{_≡_, refl, sym, ap, ap₂, _∙_}
 use lib.Ieee.{binary64, mul}
-use Rattle.math.specs.Sum.{whole}
 use Rattle.glyph_tests.specs.Limits.{slackOf, boxLimitsOf}
 use Rattle.glyph_tests.proofs.limits.limits_of.Statement.{statement}
 use Rattle.glyph_tests.proofs.limits.limits_of.Tie as tie

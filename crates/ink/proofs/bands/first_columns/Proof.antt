@@ -1,5 +1,5 @@
 -- `bands::first_columns` meets its contract: each band that is passed over has no column over the limit.
-use Prim.Native.Nat.{ℕ, _-_, _≤_}
+use Prim.Native.Nat.{_-_, _≤_}
 use native.Mathlib.Omega.{arith}
 use borrow.Author.Needs.{needs}
 use borrow.Author.Tests.{not-false}

@@ -5,7 +5,7 @@ use Prim.Native.Nat.{ℕ, _-_, _<_}
 use native.Mathlib.Omega.{arith}
 use borrow.Author.Needs.{scaled-fits}
 use lib.ListN.{length, getD}
-use Rattle.sorted.specs.Ordered.{FirstAtLeast}
+use Rattle.sorted.specs.Steps.{FirstAtLeast}
 use Rattle.meeting.specs.Segments.{rulingAt}
 use Rattle.meeting.proofs.Rulings.{member-within}
 use Rattle.junctions.proofs.Searching.{Searched, search-begin, search-turn, search-stop, search-end, search-found}

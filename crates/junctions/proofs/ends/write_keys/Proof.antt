@@ -8,17 +8,17 @@ use lib.ListN.{length, getD, set}
 use Rattle.sorted.proofs.Writing.{Writing, write-begin, write-turn}
 use Rattle.meeting.specs.declared.segment.Segment.{Segment}
 use Rattle.meeting.specs.Segments.{rulingAt}
-use Rattle.junctions.specs.Ends.{centreKey}
+use Rattle.junctions.specs.Steps.{centreKey}
 use Rattle.meeting.proofs.Rulings.{member-within}
 use Rattle.junctions.proofs.ends.write_keys.Statement.{statement}
 use Rattle.junctions.proofs.ends.write_keys.Tie as tie
 
 module _ (s : ℕ → Segment) (set : List ℕ) where
   -- the key of the member at a place
-  abbrev member-key : ℕ → ℕ
-  member-key k = centreKey (s (getD set k 0))
+  abbrev member-key : ℕ → ℕ → Type 0
+  member-key k v = v ≡ centreKey (s (getD set k 0))
 
-  read : {a : Segment} {v : ℕ} (k : ℕ) → a ≡ s (getD set k 0) → v ≡ centreKey a → v ≡ member-key k
+  read : {a : Segment} {v : ℕ} (k : ℕ) → a ≡ s (getD set k 0) → v ≡ centreKey a → member-key k v
   read k e f = f ∙ ap centreKey e
 
 abbrev Inv-loop : tie.InvT-loop

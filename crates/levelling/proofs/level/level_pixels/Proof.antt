@@ -1,5 +1,5 @@
 -- `levelling::level::level_pixels` meets its contract: every place below k shows its own column.
-use mathlib.Core.Path.{_≡_, refl, sym, ap, ap₂, _∙_}
+use mathlib.Core.Path.{_≡_, refl, ap, _∙_}
 use mathlib.Core.List.{List}
 use Prim.Native.Nat.{ℕ, _+_, _-_, _≤_, _<_}
 use native.Mathlib.Decide.{ℕ-discrete}
@@ -7,7 +7,6 @@ use native.Mathlib.Omega.{arith}
 use lib.ListN.{length, getD, set, length-set}
 use lib.Seq.{getD-set-same, getD-set-other}
 use Rattle.layout.specs.Level.{columnShows, pageShows}
-use Rattle.levelling.specs.Steps.{Painted}
 use Rattle.levelling.proofs.level.level_pixels.Statement.{statement}
 use Rattle.levelling.proofs.level.level_pixels.Tie as tie
 

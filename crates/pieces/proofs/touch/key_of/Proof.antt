@@ -5,11 +5,12 @@ use Prim.Native.Nat.{ℕ, _+_, _^_, _<_}
 use borrow.Author.Needs.{needs}
 use Rattle.rects.specs.declared.Rect.{Rect}
 use Rattle.pieces.specs.Pieces.{horizontal}
-use Rattle.pieces.specs.Steps.{startIn, offsetIn, KeyOf}
+use Rattle.pieces.specs.Steps.{startIn, KeyOf}
+use Rattle.sorted.specs.Steps.{offset}
 use Rattle.pieces.proofs.touch.key_of.Statement.{statement}
 use Rattle.pieces.proofs.touch.key_of.Tie as tie
 
-key : (r : Rect) {h : Bool} {s o : ℕ} → h ≡ horizontal r → s ≡ startIn h r → s < 2 ^ 32 → o ≡ offsetIn h → KeyOf r (s + o)
+key : (r : Rect) {h : Bool} {s o : ℕ} → h ≡ horizontal r → s ≡ startIn h r → s < 2 ^ 32 → o ≡ offset h → KeyOf r (s + o)
 key r d e l f = record { value = rw (e, f, d); small = rw (← d, ← e) l }
 
 is-horizontal-requires : tie.Need-is-horizontal-requires

@@ -1,44 +1,35 @@
 -- `touch::write_keys` meets its contract: one key more a turn.
-use mathlib.Core.Path.{_≡_, refl, _∙_}
+use mathlib.Core.Path.{_≡_, sym}
 use mathlib.Core.List.{List}
-use Prim.Native.Nat.{ℕ, _+_, _-_, _≤_, _<_, zero-le}
-use native.Mathlib.Decide.{ℕ-discrete}
+use Prim.Native.Nat.{ℕ, _-_}
 use native.Mathlib.Omega.{arith}
 use borrow.Author.Needs.{scaled-fits}
-use lib.ListN.{length, getD, set, length-set}
-use lib.Seq.{getD-set-same, getD-set-other}
+use lib.ListN.{length}
 use Rattle.rects.specs.declared.Rect.{Rect}
 use Rattle.rects.specs.Rects.{rectAt}
 use Rattle.rects.proofs.Questions.{has-numbers}
+use Rattle.sorted.proofs.Writing.{Writing, write-begin, write-turn}
 use Rattle.pieces.specs.Steps.{Ordered, KeyOf}
 use Rattle.pieces.proofs.touch.write_keys.Statement.{statement}
 use Rattle.pieces.proofs.touch.write_keys.Tie as tie
 
-record Keys (pieces : List ℕ) (n : ℕ) (ks₀ ks : List ℕ) (k : ℕ) : Type 0 where
-  up-to : k ≤ n
-  long : length ks ≡ length ks₀
-  done : (i : ℕ) → i < k → KeyOf (rectAt pieces i) (getD ks i 0)
+abbrev piece-key : List ℕ → ℕ → ℕ → Type 0
+piece-key pieces i v = KeyOf (rectAt pieces i) v
 
-turn : {pieces : List ℕ} {n : ℕ} {ks₀ ks : List ℕ} {k : ℕ} {r : Rect} {v : ℕ} → Keys pieces n ks₀ ks k → k < n → n ≤ length ks₀ → r ≡ rectAt pieces k → KeyOf r v
-    → Keys pieces n ks₀ (set ks k v) (k + 1)
-turn {pieces} {n} {ks₀} {ks} {k} {v = v} W l room e K =
-    record { up-to = omega arith; long = length-set ks k v ∙ W .long; done = λ i h. go i h (ℕ-discrete i k) }
-  where
-    go : (i : ℕ) → i < k + 1 → Dec (i ≡ k) → KeyOf (rectAt pieces i) (getD (set ks k v) i 0)
-    go i h (yes q) = rw (q, getD-set-same ks k v 0 (omega (arith, W .long)), ← e) K
-    go i h (no q) = rw (getD-set-other ks k i v 0 q) (W .done i (omega arith))
+written : (pieces : List ℕ) (k : ℕ) {v : ℕ} {r : Rect} → r ≡ rectAt pieces k → KeyOf r v → piece-key pieces k v
+written pieces k e K = rw (sym e) K
 
 read : {r s : Rect} → Ordered s → r ≡ s → Ordered r
 read o e = rw e o
 
 abbrev Inv-loop : tie.InvT-loop
-Inv-loop pieces keys₀ n i₀ keys i = Keys pieces n keys₀ keys i
+Inv-loop pieces keys₀ n i₀ keys i = Writing (piece-key pieces) n keys₀ keys i
 
 abbrev μ-loop : tie.MeasureT-loop
 μ-loop pieces keys₀ n i₀ keys i = n - i
 
 loop-holds : tie.Need-loop-holds Inv-loop μ-loop
-loop-holds c = record { up-to = zero-le; long = refl; done = λ i h. absurd (omega arith) }
+loop-holds c = write-begin (piece-key (c .before .before .args .pieces .now)) _ (c .before .before .args .keys .now)
 
 rect-at-requires : tie.Need-rect-at-requires Inv-loop μ-loop
 rect-at-requires c κs = has-numbers (length (c .before .before .before .before .args .pieces .now)) (c .before .loop .i) (c .loop-test .taken)
@@ -59,7 +50,9 @@ loop-less : tie.Need-loop-less Inv-loop μ-loop
 loop-less c = omega (arith, c .before .before .loop-test .taken)
 
 loop-again : tie.Need-loop-again Inv-loop μ-loop
-loop-again c = turn (c .before .before .before .loop .inv) (c .before .before .loop-test .taken) (c .before .before .before .before .before .before .pre .1) (c .before .rect-at .ensures) (c .key-of .ensures)
+loop-again c =
+    let start = c .before .before .before .before .before .before in
+    write-turn (piece-key (start .args .pieces .now)) _ (start .args .keys .now) (c .before .before .before .loop .inv) (c .before .before .loop-test .taken) (start .pre .1) (written (start .args .pieces .now) (c .before .before .before .loop .i) (c .before .rect-at .ensures) (c .key-of .ensures))
 
 same-length : tie.Need-same-length Inv-loop μ-loop
 same-length c = c .before .loop .inv .long

@@ -1,8 +1,13 @@
 -- Indexes in the order of their keys, and the first place in it whose key is large enough.
 use mathlib.Core.Path.{_≡_}
+use mathlib.Core.Bool.{Bool, cond}
 use mathlib.Core.List.{List}
 use Prim.Native.Nat.{ℕ, _^_, _≤_, _<_}
 use lib.ListN.{length, getD}
+
+-- What is added to the keys of the second of two kinds, so that these stand behind all of the first.
+abbrev pub offset : Bool → ℕ
+offset first = cond first 0 (2 ^ 34)
 
 -- The key of the index at a place of the order.
 abbrev pub keyAt : List ℕ → List ℕ → ℕ → ℕ

@@ -1,15 +1,11 @@
 -- How the members of a set are put in order, so that those which may join an end stand together.
 use mathlib.Core.Path.{_≡_}
-use mathlib.Core.Bool.{Bool, cond, not}
+use mathlib.Core.Bool.{not}
 use mathlib.Core.List.{List}
-use Prim.Native.Nat.{ℕ, _+_, _-_, _*_, _^_, _<_}
+use Prim.Native.Nat.{ℕ, _+_, _-_, _*_, _<_}
 use lib.ListN.{length, getD}
-use Rattle.sorted.specs.Ordered.{InOrder}
+use Rattle.sorted.specs.Steps.{offset, InOrder}
 use Rattle.meeting.specs.declared.segment.Segment.{Segment}
-
--- What is added to the doubled centres of a direction, so that vertical rulings stand behind all horizontal ones.
-abbrev pub offset : Bool → ℕ
-offset horizontal = cond horizontal 0 (2 ^ 34)
 
 -- Where a ruling stands: by its direction and its doubled centre.
 abbrev pub centreKey : Segment → ℕ

@@ -6,7 +6,7 @@ use Prim.Native.Nat.{ℕ, _+_, _-_, _*_, _≤_, _<_, min}
 use lib.ListN.{length, getD}
 use Rattle.lists.specs.Lists.{concat, written}
 use Rattle.sets.specs.Listing.{endsFrom}
-use Rattle.sorted.specs.Ordered.{InOrder}
+use Rattle.sorted.specs.Steps.{InOrder}
 use Rattle.meeting.specs.declared.segment.Segment.{Segment}
 use Rattle.meeting.specs.Meeting.{Touch, rulingSets}
 
