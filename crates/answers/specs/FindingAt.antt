@@ -4,8 +4,8 @@ use Rattle.math.specs.Constants.{zero}
 use Rattle.layout.specs.declared.rect.PageRect.{PageRect}
 use Rattle.evidence.specs.declared.finding.Row.{Row}
 use Rattle.evidence.specs.Finding.{noEvidence, rowOf}
-use Rattle.finding_lists.specs.declared.read.FindingAt.{FindingAt}
-use Rattle.finding_lists.specs.declared.read.FindingAt.the-variants.{Found, Nothing}
+use Rattle.read_findings.specs.declared.FindingAt.{FindingAt}
+use Rattle.read_findings.specs.declared.FindingAt.the-variants.{Found, Nothing}
 use Rattle.answers.specs.declared.finding_at.FindingAtAnswer.{FindingAtAnswer}
 
 -- 1 where there is a finding, and the numbers of a row.

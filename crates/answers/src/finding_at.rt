@@ -1,9 +1,9 @@
 // A finding read back from its lists (crate `finding_lists`).
 ghost use mathlib.Core.Path.{_≡_};
-ghost use Rattle.finding_lists.specs.Read.{columns, findingAt};
+ghost use Rattle.read_findings.specs.Read.{columns, findingAt};
 ghost use Rattle.answers.specs.FindingAt.{ofRow, zeros, answerOf};
 use evidence::finding::Row;
-use finding_lists::read::FindingAt;
+use read_findings::FindingAt;
 
 // 1 and the finding's numbers, or all 0 where there is none.
 #[repr(C)]
@@ -100,7 +100,7 @@ pub fn finding_at(
         (now («first_values» .entry)) (now («first_thresholds» .entry)) (now («first_llrs» .entry))
         (now («second_values» .entry)) (now («second_thresholds» .entry)) (now («second_llrs» .entry)) (now (lengths .entry))) count i) ⌝ }
 {
-    let answer = finding_lists::read::finding_at(
+    let answer = read_findings::finding_at(
         rects,
         kinds,
         a,

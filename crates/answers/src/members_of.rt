@@ -12,7 +12,7 @@ pub struct MembersOfAnswer {
 pub fn members_of(members: &[u32], ends: &[u32], count: usize, set: usize) -> MembersOfAnswer
     ensures { λ r. ⌜ PartOf (now (members .entry)) (now (ends .entry)) count set r ⌝ }
 {
-    let part = sets::members_of(members, ends, count, set);
+    let part = listings::members_of(members, ends, count, set);
     let size = part.len();
     if size == 0 {
         return MembersOfAnswer { start: 0, count: 0 };

@@ -1,5 +1,4 @@
 -- Why boxes are joined rightly: laws that belong to no one function.
-pub mod Similar
 pub mod Rows
 pub mod Nexts
 pub mod Sweeps

@@ -10,9 +10,10 @@ use borrow.Author.Tests.{leb-true, le-leb}
 use Rattle.rects.specs.Rects.{count, widthOf, rectAt}
 use Rattle.sets.specs.Steps.{root}
 use Rattle.sorted.specs.Steps.{InOrder, keyAt}
-use Rattle.box_sets.specs.Boxes.{similar}
-use Rattle.box_sets.specs.Steps.{PassedBoxes, Near, widthAt, NextNear}
-use Rattle.box_sets.proofs.Similar.{similar-comm, similar-itself}
+use Rattle.box_widths.specs.Widths.{similar}
+use Rattle.box_widths.specs.Steps.{PassedBoxes}
+use Rattle.box_sets.specs.Steps.{Near, widthAt, NextNear}
+use Rattle.box_widths.proofs.SimilarWidths.{similar-comm, similar-itself}
 
 -- ---- the first place behind a, before e, at which a number is the same again
 

@@ -15,7 +15,8 @@ use Rattle.rects.specs.Rects.{count, widthOf, rectAt, distance}
 use Rattle.sets.specs.Steps.{root, Joined}
 use Rattle.sets.proofs.Roots.{joined-keeps, joined-one}
 use Rattle.sets.proofs.Sweeps.{between-more}
-use Rattle.box_sets.specs.Boxes.{similar, touching}
+use Rattle.box_widths.specs.Widths.{similar}
+use Rattle.box_sets.specs.Boxes.{touching}
 use Rattle.box_sets.specs.Steps.{Near, Sweep, widthAt, NextNear, SweptTo, OneSet}
 
 -- ---- places in one set

@@ -15,8 +15,10 @@ use Rattle.sets.specs.Closed.{Below}
 use Rattle.sets.specs.Steps.{Joins, root}
 use Rattle.sets.proofs.Sweeps.{between-known, between-all}
 use Rattle.sorted.specs.Steps.{InOrder}
-use Rattle.box_sets.specs.Boxes.{similar, centreX, aligned, touching, Touch}
-use Rattle.box_sets.specs.Steps.{PassedBoxes, centreIn, Centred, Near, Sweep, JoinedSo, NextNear, SweptTo, JoinedNear}
+use Rattle.box_widths.specs.Widths.{similar}
+use Rattle.box_sets.specs.Boxes.{centreX, aligned, touching, Touch}
+use Rattle.box_widths.specs.Steps.{PassedBoxes}
+use Rattle.box_sets.specs.Steps.{centreIn, Centred, Near, Sweep, JoinedSo, NextNear, SweptTo, JoinedNear}
 use Rattle.box_sets.proofs.Nexts.{near-joined}
 
 -- ---- the keys are doubled centres

@@ -2,20 +2,12 @@
 use mathlib.Core.Path.{_≡_}
 use mathlib.Core.Bool.{Bool, true, _&&_, _||_}
 use mathlib.Core.List.{List}
-use Prim.Native.Nat.{ℕ, _+_, _-_}
+use Prim.Native.Nat.{ℕ, _+_}
 use lib.Dec.{leb}
-use lib.Ieee.{binary64, mul, sub, le}
-use Rattle.math.specs.Constants.{threeTenths}
-use Rattle.math.specs.Select.{absolute, maximumNumber}
-use Rattle.math.specs.Sum.{whole}
 use Rattle.rects.specs.declared.Rect.{Rect}
 use Rattle.rects.specs.Rects.{count, widthOf, rectAt, distance}
 use Rattle.sets.specs.Listing.{closedSets}
-
--- Two widths are similar: they differ by at most 0.3 × the larger, in f64.
-unfoldable pub similar : ℕ → ℕ → Bool
-similar a b =
-    le (absolute (sub binary64 (whole a) (whole b))) (mul binary64 threeTenths (maximumNumber (whole a) (whole b)))
+use Rattle.box_widths.specs.Widths.{similar}
 
 -- The doubled centre of a box each way: the sum of its two coordinates.
 abbrev pub centreX : Rect → ℕ

@@ -13,13 +13,8 @@ use Rattle.sets.specs.Steps.{root, Between}
 use Rattle.sorted.specs.Steps.{InOrder}
 use Rattle.rects.specs.declared.Rect.{Rect}
 use Rattle.rects.specs.Rects.{count, widthOf, rectAt, distance}
-use Rattle.rects.specs.Steps.{Inside}
-use Rattle.box_sets.specs.Boxes.{similar, centreX, centreY, aligned, Touch, boxSets}
-
--- The boxes have passed questions 5 and 6.
-pub record PassedBoxes (rects : List ℕ) : Type 0 where
-  pub inside : (k : ℕ) → k < count rects → Inside 8192 8192 (rectAt rects k)
-  pub few : count rects ≤ 16384
+use Rattle.box_widths.specs.Widths.{similar}
+use Rattle.box_sets.specs.Boxes.{centreX, centreY, aligned, Touch, boxSets}
 
 -- The closed sets were listed; they have no more members than there are boxes, and are no more.
 pub record Connected (rects : List ℕ) (limit : ℕ) (m e m′ e′ : List ℕ) (r : ℕ) : Type 0 where

@@ -1,6 +1,5 @@
 // Boxes: which touch, and the closed sets of those that do.
 mod sweep;
-mod touch;
 
 ghost use mathlib.Core.Path.{_≡_};
 ghost use Prim.Native.Nat.{_<_, _≤_, _^_};
@@ -10,7 +9,8 @@ ghost use Rattle.sets.specs.Closed.{Below};
 ghost use Rattle.sets.specs.Steps.{Joins, Room};
 ghost use Rattle.sorted.specs.Steps.{SortRoom};
 ghost use Rattle.box_sets.specs.Boxes.{Touch};
-ghost use Rattle.box_sets.specs.Steps.{PassedBoxes, Connected};
+ghost use Rattle.box_widths.specs.Steps.{PassedBoxes};
+ghost use Rattle.box_sets.specs.Steps.{Connected};
 
 // Joins every two boxes that touch: those of one column, then those of one row. The other lists are lent to sort in, with a place a box
 // each; `order` keeps what stands past those.
@@ -49,5 +49,5 @@ pub fn connect(
     ensures { λ r. ⌜ Connected (now (rects .entry)) limit (now (members .entry)) (now (ends .entry)) (now (members .exit)) (now (ends .exit)) r ⌝ }
 {
     join_all(rects, limit, parents, members, work, keys);
-    sets::list(parents, rects.len() / 4, members, ends, work)
+    listings::list(parents, rects.len() / 4, members, ends, work)
 }

@@ -6,8 +6,8 @@ ghost use Prim.Native.Nat.{_+_, _≤_, _<_, _^_, max};
 ghost use lib.ListN.{length, drop};
 ghost use Rattle.rects.specs.Rects.{count};
 ghost use Rattle.sorted.specs.Steps.{SortRoom, InOrder};
-ghost use Rattle.box_sets.specs.Steps.{PassedBoxes, centreIn, Centred, Sweep, SweptTo, OneSet, RowDone, JoinedSo, JoinedNear};
-use crate::touch;
+ghost use Rattle.box_widths.specs.Steps.{PassedBoxes};
+ghost use Rattle.box_sets.specs.Steps.{centreIn, Centred, Sweep, SweptTo, OneSet, RowDone, JoinedSo, JoinedNear};
 use rects::Rect;
 
 // The doubled centre that the boxes of a column have in common, or else of a row.
@@ -80,7 +80,7 @@ fn join_row(
 {
     let n = rects.len() / 4;
     let i = order[k] as usize;
-    let width = touch::size_at(rects, i);
+    let width = box_widths::size_at(rects, i);
     let last = keys[i] + limit;
     let mut whole = true;
     let mut l = first_untried(k, from);
@@ -89,8 +89,8 @@ fn join_row(
         if last < keys[j] {
             return known_to(whole, l);
         }
-        let other = touch::size_at(rects, j);
-        whole = touch::join_similar(parents, n, i, j, width, other) & whole;
+        let other = box_widths::size_at(rects, j);
+        whole = box_widths::join_similar(parents, n, i, j, width, other) & whole;
         l += 1;
         if other == width {
             return known_to(whole, l);

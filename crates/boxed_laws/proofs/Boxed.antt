@@ -18,9 +18,9 @@ use Rattle.rects.specs.Rects.{count}
 use Rattle.rects.specs.Steps.{AllInside}
 use Rattle.rects.proofs.Questions.{has-numbers}
 use Rattle.params.specs.Limits.{alignLimit}
-use Rattle.boxes.proofs.EveryBox.{rectangles-long}
+use Rattle.box_lists.proofs.EveryBox.{rectangles-long}
 use Rattle.box_sets.specs.Boxes.{touch, boxSets}
-use Rattle.box_sets.specs.Steps.{PassedBoxes}
+use Rattle.box_widths.specs.Steps.{PassedBoxes}
 use Rattle.grids.specs.Grids.{isGrid, gridNumbers}
 use Rattle.grids.proofs.Choosing as Choosing
 use Rattle.findings.specs.Steps.{AllGiven, GridsGiven}

@@ -25,7 +25,7 @@ use Rattle.params.proofs.Passed.{settings-passed}
 use Rattle.ink.specs.Steps.{Readable}
 use Rattle.glyph_tests.specs.Limits.{boxLimitsOf}
 use Rattle.boxes.specs.Call.{Given, Lent, hasRoom, givenQuestions, questions}
-use Rattle.boxes.specs.Steps.{Ready}
+use Rattle.box_lists.specs.Steps.{Ready}
 
 -- a rectangle inside the picture can be read
 readable : (mask : List ℕ) (w h : ℕ) (r : Rect) → w ≤ 8192 → h ≤ 8192 → length mask ≡ w * h → Inside w h r → Readable mask w r

@@ -22,7 +22,7 @@ use Rattle.ink.proofs.Runs.{longest-run-is}
 use Rattle.glyph_tests.specs.declared.limits.Limits.{Limits}
 use Rattle.glyph_tests.specs.Tests.{rowOver, columnOver, frameOf, topEdge, bottomEdge, leftEdge, rightEdge, runShare, edgeCoverage}
 use Rattle.glyph_tests.specs.Glyph.{boxIn, trimmed, passedOver, boxOf}
-use Rattle.boxes.specs.Boxes.{chosen, boxesBelow, boxesOf, coveragesOf}
+use Rattle.box_lists.specs.Boxes.{chosen, boxesBelow, boxesOf, coveragesOf}
 
 -- a run along a side is at most the side
 pub run-share-small : (q : ℕ → Bool) (n : ℕ) → 0 < n → n ≤ 8192 → AtMost 1 (runShare q n)

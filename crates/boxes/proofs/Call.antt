@@ -9,8 +9,8 @@ use Rattle.glyph_tests.specs.declared.limits.Limits.{Limits}
 use Rattle.glyph_tests.specs.Limits.{boxLimitsOf}
 use Rattle.boxes.specs.Call as Call
 use Rattle.boxes.specs.Call.{Given, Lent, questions, refusal, Boxes}
-use Rattle.boxes.specs.Steps.{Made}
-use Rattle.boxes.proofs.EveryBox.{every-box}
+use Rattle.box_lists.specs.Steps.{Made}
+use Rattle.box_lists.proofs.EveryBox.{every-box}
 
 module _ (g : Given) (l : Lent) {q : ℕ} (asked : q ≡ firstMissed (questions g l)) where
   pub accepted : q ≡ 0 → {lim : Limits} (l′ : Lent) {n : ℕ} → lim ≡ boxLimitsOf (g .dpi) (g .xheight) (g .settings)

@@ -1,6 +1,4 @@
--- Laws of the list of boxes, and of the call.
-pub mod EveryBox
-pub mod Listing
+-- Laws of the call.
 pub mod Accepted
 pub mod Call
 pub mod Bound

@@ -17,7 +17,7 @@ use Rattle.ink.specs.Ink.{inkAt}
 use Rattle.boxes.specs.declared.Answer.{Answer}
 use Rattle.glyph_tests.specs.declared.found.CheckBox.{CheckBox}
 use Rattle.glyph_tests.specs.Limits.{boxLimitsOf}
-use Rattle.boxes.specs.Boxes.{chosen, boxesOf, EveryBox, framesOf, marksOf, coveragesOf}
+use Rattle.box_lists.specs.Boxes.{chosen, boxesOf, EveryBox, framesOf, marksOf, coveragesOf}
 
 -- What the call is given; w and h are the levelled sides.
 pub record Given : Type 0 where

@@ -1,5 +1,2 @@
--- What a reader must believe of `boxes`: the boxes of a page, and the call's promise.
-pub mod Boxes
+-- What a reader must believe of `boxes`: the call's promise.
 pub mod Call
--- Not needed to read the contract.
-pub mod Steps

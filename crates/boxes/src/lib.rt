@@ -2,7 +2,6 @@
 ghost use Rattle.boxes.specs.Call.{Boxes};
 
 mod guard;
-pub mod write;
 
 use params::settings::RulingsParams;
 
@@ -43,6 +42,6 @@ pub fn boxes(
         return Answer { number, count: 0 };
     }
     let l = glyph_tests::limits::limits_of(dpi, xheight, p);
-    let count = write::find(ink, w, glyphs, l, rects, marks, coverages);
+    let count = box_lists::find(ink, w, glyphs, l, rects, marks, coverages);
     Answer { number: 0, count }
 }

@@ -14,10 +14,10 @@ use Rattle.math.proofs.Bound.{AtMost, value-at-most, sub-at-most}
 use Rattle.math.proofs.Quotient.{quotient-at-most}
 use Rattle.math.proofs.Sums.{EachLe, total-le, sum-bytes, whole-value}
 use Rattle.rects.specs.declared.Rect.{Rect}
-use Rattle.contrast.specs.Pixels.{pixel, span, beside, pixelsIn, samples, darkest}
-use Rattle.contrast.specs.Median.{insert, sorted, median}
+use Rattle.paper.specs.Pixels.{pixel, span, beside, pixelsIn, samples, darkest}
+use Rattle.paper.specs.Median.{insert, sorted, median}
 use Rattle.contrast.specs.Contrast.{contrastOf}
-use Rattle.contrast.specs.Steps.{OnPicture}
+use Rattle.paper.specs.Steps.{OnPicture}
 use Rattle.contrast.proofs.Lines.{darkest-bytes, darkest-number}
 use Rattle.contrast.proofs.Mean.{places-fit}
 

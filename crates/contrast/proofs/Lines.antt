@@ -16,9 +16,10 @@ use Rattle.math.specs.Sum.{total}
 use Rattle.math.proofs.Sums.{EachLe, total-le}
 use Rattle.rects.specs.declared.Rect.{Rect}
 use Rattle.rects.specs.Rects.{widthOf, heightOf}
-use Rattle.contrast.specs.Pixels.{pixel, run, span, darkestOf, darkest}
-use Rattle.contrast.specs.Steps.{line, columnsDarkest, rowsDarkest, Darkened, RowsInside, placesAlong}
-use Rattle.contrast.proofs.Pixels.{values-same, row-inside, run-length}
+use Rattle.paper.specs.Pixels.{pixel, run, span, darkestOf, darkest}
+use Rattle.paper.specs.Steps.{line}
+use Rattle.contrast.specs.Steps.{columnsDarkest, rowsDarkest, Darkened, RowsInside, placesAlong}
+use Rattle.paper.proofs.Pixels.{values-same, row-inside, run-length}
 
 -- ---- the darkest of some pixels
 

@@ -12,10 +12,11 @@ use Rattle.math.specs.Near.{Within}
 use Rattle.math.proofs.Sums.{total-le, sum-bytes}
 use Rattle.math.proofs.Mean.{mean-within}
 use Rattle.rects.specs.declared.Rect.{Rect}
-use Rattle.contrast.specs.Pixels.{samples, darkest}
-use Rattle.contrast.specs.Median.{median}
+use Rattle.paper.specs.Pixels.{samples, darkest}
+use Rattle.paper.specs.Median.{median}
 use Rattle.contrast.specs.Contrast.{contrastOf}
-use Rattle.contrast.specs.Steps.{OnPicture, Contrasted, placesAlong}
+use Rattle.paper.specs.Steps.{OnPicture}
+use Rattle.contrast.specs.Steps.{Contrasted, placesAlong}
 use Rattle.contrast.proofs.Lines.{darkest-bytes, darkest-number}
 
 -- a ruling has places along it, and at most as many as a side of the picture

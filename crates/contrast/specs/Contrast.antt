@@ -7,8 +7,8 @@ use lib.Ieee.{Float, binary64, sub, div}
 use Rattle.math.specs.Sum.{pairwiseSum, whole, total}
 use Rattle.math.specs.Near.{Within}
 use Rattle.rects.specs.declared.Rect.{Rect}
-use Rattle.contrast.specs.Pixels.{darkest, samples}
-use Rattle.contrast.specs.Median.{median}
+use Rattle.paper.specs.Pixels.{darkest, samples}
+use Rattle.paper.specs.Median.{median}
 
 -- The samples' median minus sum over count, in f64: one rounding in the division and one in the subtraction.
 abbrev pub medianLessMean : List ℕ → List ℕ → Float

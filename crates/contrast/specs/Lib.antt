@@ -1,5 +1,3 @@
--- What a reader must believe of `contrast`; `Counting` is what sampling and the functions below the contrast promise. `Steps` is not needed to read the contracts.
-pub mod Pixels
-pub mod Median
+-- What a reader must believe of `contrast`. `Steps` is not needed to read the contracts.
 pub mod Contrast
 pub mod Steps

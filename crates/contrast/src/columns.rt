@@ -69,7 +69,7 @@ pub fn sum_of_columns(raster: &[u8], start: usize, n: usize, rows: usize, w: usi
     let mut sum = 0;
     let mut i = 0;
     while i < n {
-        let part = crate::areas::least(n - i, 256);
+        let part = paper::areas::least(n - i, 256);
         sum += sum_of_part(raster, start + i, part, rows, w);
         i += part;
     }

@@ -4,8 +4,9 @@ ghost use Prim.Native.Nat.{_+_, _≤_};
 ghost use lib.ListN.{length};
 ghost use Rattle.math.specs.Sum.{total};
 ghost use Rattle.rects.specs.Steps.{Inside};
-ghost use Rattle.contrast.specs.Steps.{OnPicture, line, rowsDarkest, RowsInside, placesAlong};
-ghost use Rattle.contrast.specs.Pixels.{darkest, darkestOf};
+ghost use Rattle.paper.specs.Steps.{OnPicture, line};
+ghost use Rattle.contrast.specs.Steps.{rowsDarkest, RowsInside, placesAlong};
+ghost use Rattle.paper.specs.Pixels.{darkest, darkestOf};
 use rects::Rect;
 
 // The darkest of n pixels from start on.

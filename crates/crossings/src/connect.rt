@@ -173,5 +173,5 @@ pub fn connect(
     write_keys(rects, directions, chosen, keys);
     sorted::arrange(keys, chosen.len(), members, parents);
     join_all(rects, directions, chosen, keys, members, join, parents);
-    sets::list(parents, chosen.len(), members, ends, work)
+    listings::list(parents, chosen.len(), members, ends, work)
 }

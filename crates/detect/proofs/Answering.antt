@@ -20,7 +20,7 @@ use Rattle.segments.proofs.Demand as Segments
 use Rattle.ruling_lists.proofs.Rectangles.{all-wider}
 use Rattle.tables.proofs.Demand as Tables
 use Rattle.glyph_tests.specs.Limits.{boxLimitsOf}
-use Rattle.boxes.proofs.EveryBox.{every-box}
+use Rattle.box_lists.proofs.EveryBox.{every-box}
 use Rattle.grids.proofs.Demand as Grids
 use Rattle.findings.specs.Made.{everyFinite}
 use Rattle.page.specs.declared.answer.Answer.{Answer}
@@ -28,7 +28,7 @@ use Rattle.page.specs.declared.counts.Counts.{Counts}
 use Rattle.page.specs.Page as Page
 use Rattle.page.specs.Page.{Page}
 use Rattle.page.specs.Lent.{Lent}
-use Rattle.page.specs.Questions.{givenQuestions, roomy, firstQuestions, allQuestions}
+use Rattle.page.specs.Questions.{givenQuestions, roomy, firstQuestions}
 use Rattle.page.specs.Answer.{accepted, refusal}
 use Rattle.page.specs.Call.{countsOf, Detect}
 use Rattle.read_page.proofs.Known.{known}

@@ -1,18 +1,16 @@
 -- Findings: what their stage asks, and that what it leaves are the page's findings.
 use mathlib.Core.Path.{_≡_, refl, sym, subst, transport, _∙_}
 use mathlib.Core.Bool.{Bool, true}
-use mathlib.Core.List.{List, []}
-use Prim.Native.Nat.{ℕ, _+_, _*_, _^_, _≤_, _<_}
+use Prim.Native.Nat.{ℕ, _+_, _*_, _≤_}
 use native.Mathlib.Omega.{arith}
-use lib.Ieee.{Float}
-use lib.ListN.{length, getD, take}
+use lib.ListN.{length, take}
 use Rattle.lists.specs.Lists.{written}
-use Rattle.sets.specs.Listing.{membersOf, ReadAs}
+use Rattle.sets.specs.Listing.{ReadAs}
 use Rattle.rects.specs.Rects.{count}
 use Rattle.rects.specs.Steps.{AllInside}
 use Rattle.finding_lists.specs.Columns.{Columns}
 use Rattle.finding_lists.proofs.Storing.{room-for-fewer}
-use Rattle.findings.specs.Made.{RulingLists, TableLists, BoxLists, freePlaces, freeCount, folds}
+use Rattle.findings.specs.Made.{freePlaces, freeCount, folds}
 use Rattle.findings.specs.Steps.{AllGiven, TablesGiven, NumbersGiven, GridsGiven, FindRoom, PageFound}
 use Rattle.page.specs.Page as Page
 use Rattle.page.specs.Page.{Page}

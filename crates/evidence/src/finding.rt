@@ -140,7 +140,7 @@ pub fn row_of(f: Finding) -> Row
 fn finite_evidence(e: Evidence) -> bool
     ensures { λ r. ⌜ r ≡ finiteEvidence e ⌝ }
 {
-    math::select::finite(e.value) & math::select::finite(e.threshold) & math::select::finite(e.llr)
+    select::finite(e.value) & select::finite(e.threshold) & select::finite(e.llr)
 }
 
 // Question 15 of one finding: is every evidence number finite? The places that a fold doesn't use are.

@@ -14,7 +14,7 @@ use params::settings::RulingsParams;
 fn count_evidence(count: f64, threshold: f64, coef: f64, cap: f64, clip: f64) -> Evidence
     ensures { λ r. ⌜ r ≡ countEvidence clip count threshold coef cap ⌝ }
 {
-    score::evidence_of(count, threshold, coef * math::select::min(count, cap), clip)
+    score::evidence_of(count, threshold, coef * select::min(count, cap), clip)
 }
 
 // A finding with two evidences.
@@ -146,7 +146,7 @@ pub fn fold_finding(
     let llr = (p.rule_min_contrast - contrast) / 10.0;
     let first = score::evidence_of(contrast, p.rule_min_contrast, llr, f.llr_clip);
     let clamped = first.llr;
-    let length = math::rounding::round_output(inches);
+    let length = rounding::round_output(inches);
     Finding {
         log_odds: score::log_odds(0.0, &[clamped], f.group_cap),
         bbox,

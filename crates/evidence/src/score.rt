@@ -10,7 +10,7 @@ pub fn evidence_of(value: f64, threshold: f64, llr: f64, clip: f64) -> Evidence
     Evidence {
         value,
         threshold,
-        llr: math::select::clamp(llr, clip),
+        llr: select::clamp(llr, clip),
     }
 }
 
@@ -18,6 +18,6 @@ pub fn evidence_of(value: f64, threshold: f64, llr: f64, clip: f64) -> Evidence
 pub fn log_odds(prior: f64, llrs: &[f64], cap: f64) -> f64
     ensures { λ r. ⌜ r ≡ logOdds prior cap (now (llrs .entry)) ⌝ }
 {
-    let sum = math::sum::pairwise_sum(llrs);
-    prior + (0.0 + math::select::clamp(sum, cap))
+    let sum = sums::sum::pairwise_sum(llrs);
+    prior + (0.0 + select::clamp(sum, cap))
 }

@@ -1,6 +1,5 @@
 -- Why the lists of findings are right: laws that belong to no one function.
 pub mod Bundle
 pub mod Placed
-pub mod Reading
 pub mod Storing
 pub mod Writing

@@ -42,12 +42,6 @@ pub record Roomy (n : ℕ) (l : Columns) : Type 0 where
   pub facts : EachLong 4 n (l .facts)
   pub scores : EachLong 8 n (l .scores)
 
--- Every list has an entry i, as plain facts.
-pub record Standing (l : Columns) (i : ℕ) : Type 0 where
-  pub rects : 4 * i + 4 ≤ length (l .rects)
-  pub facts : (k : ℕ) → k < 4 → i < length (getD (l .facts) k [])
-  pub scores : (k : ℕ) → k < 8 → i < length (getD (l .scores) k [])
-
 -- A finding was stored at a place, and whether it is finite.
 pub record WroteOne (f : Finding) (place : ℕ) (l l′ : Columns) (one : Bool) : Type 0 where
   pub stored : Stored (rowOf f ∷ []) (place ∷ []) l l′

@@ -1,3 +1,2 @@
-// The lists of findings: a finding stored at its place, and read back.
+// The lists of findings: a finding stored at its place.
 pub mod put;
-pub mod read;

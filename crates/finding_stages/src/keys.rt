@@ -13,6 +13,7 @@ ghost use Rattle.findings.specs.Made.{freeCount};
 ghost use Rattle.page.specs.Lent.{listAt};
 ghost use Rattle.page.specs.Steps.{Only, Kept};
 ghost use Rattle.finding_stages.specs.Steps.{FirstLong};
+use crate::first;
 use layout::sides::Sides;
 use params::settings::RulingsParams;
 
@@ -42,7 +43,7 @@ fn first_keys_of(
         (take (4 * n) (now (rects .entry)))
         (take «free_count» (now (places .entry))) (take «fold_count» (now (folds .entry))) (now (keys .entry)) (now (keys .exit)) r ⌝ }
 {
-    findings::first::keys(
+    first::keys(
         sides,
         shear,
         shear_x,
@@ -126,7 +127,7 @@ fn grid_keys_of(
         (map (λ n. gridKey sides (now (shear .entry)) (now («shear_x» .entry)) (take (4 * boxes) (now (rects .entry)))
         (membersOf (now (members .entry)) (now (ends .entry)) «box_sets» n)) (take grids (now (numbers .entry)))) ⌝ }
 {
-    findings::grid_findings::keys(
+    grid_findings::keys(
         sides,
         shear,
         shear_x,

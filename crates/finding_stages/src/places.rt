@@ -24,7 +24,7 @@ fn free_places_of(
     ensures { λ _. ⌜ now (places .exit) ≡ written (freePlaces (take «printed_count» (now (printed .entry))) (take «free_count» (now (free .entry))))
         (now (places .entry)) ⌝ }
 {
-    findings::free_findings::list(&printed[..printed_count], &free[..free_count], places);
+    free_findings::list(&printed[..printed_count], &free[..free_count], places);
 }
 
 // The places of the free rulings among all.
@@ -66,7 +66,7 @@ fn folds_of(
     ensures { λ r. ⌜ Front (folds p dpi (take (4 * n) (now (rects .entry))) (take n (now (directions .entry))) (take «faint_count» (now (faint .entry))))
         (now (out .entry)) (now (out .exit)) r ⌝ }
 {
-    findings::fold_findings::choose(
+    fold_findings::choose(
         p,
         dpi,
         &rects[..4 * n],

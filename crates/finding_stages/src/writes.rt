@@ -49,7 +49,7 @@ fn tables_written_of(
         (record { rects = now (page .entry); facts = map now (now (facts .entry)); scores = map now (now (scores .entry)) })
         (record { rects = now (page .exit); facts = map now (now (facts .exit)); scores = map now (now (scores .exit)) }) r ⌝ }
 {
-    findings::table_findings::write(
+    table_findings::write(
         sides,
         shear,
         shear_x,
@@ -164,7 +164,7 @@ fn free_written_of(
         (record { rects = now (page .entry); facts = map now (now (facts .entry)); scores = map now (now (scores .entry)) })
         (record { rects = now (page .exit); facts = map now (now (facts .exit)); scores = map now (now (scores .exit)) }) r ⌝ }
 {
-    findings::free_findings::write(
+    free_findings::write(
         sides,
         shear,
         shear_x,
@@ -276,7 +276,7 @@ fn folds_written_of(
         (record { rects = now (page .entry); facts = map now (now (facts .entry)); scores = map now (now (scores .entry)) })
         (record { rects = now (page .exit); facts = map now (now (facts .exit)); scores = map now (now (scores .exit)) }) r ⌝ }
 {
-    findings::fold_findings::write(
+    fold_findings::write(
         sides,
         shear,
         shear_x,
@@ -393,7 +393,7 @@ fn grids_written_of(
         (record { rects = now (page .entry); facts = map now (now (facts .entry)); scores = map now (now (scores .entry)) })
         (record { rects = now (page .exit); facts = map now (now (facts .exit)); scores = map now (now (scores .exit)) }) r ⌝ }
 {
-    findings::grid_findings::write(
+    grid_findings::write(
         sides,
         shear,
         shear_x,

@@ -17,7 +17,7 @@ use Rattle.finding_lists.specs.Columns.{Columns}
 use Rattle.finding_lists.specs.Steps.{Roomy}
 use Rattle.findings.specs.Keys.{keyOf}
 use Rattle.findings.specs.Steps.{firstKeys, gridKeys, NumbersGiven, AllGiven, RectsGiven, AllRanked, WriteRoom, ArrangeRoom}
-use Rattle.findings.specs.Made.{Scan, RulingLists, TableLists, BoxLists, folds, freePlaces, freeCount, firstFindings, gridFindings}
+use Rattle.findings.specs.Made.{Scan, RulingLists, TableLists, BoxLists, freePlaces, freeCount, firstFindings, gridFindings}
 use Rattle.findings.proofs.Runs.{first-long, second-long}
 use Rattle.findings.proofs.Writes.{first-keys-are, grid-keys-are}
 

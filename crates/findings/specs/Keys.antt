@@ -5,7 +5,6 @@ use mathlib.Core.Bool.{false}
 use mathlib.Core.List.{List, map}
 use Prim.Native.Nat.{ℕ, _+_, _-_, _*_, _<_}
 use lib.ListN.{length, getD}
-use Rattle.lists.specs.Lists.{below}
 use Rattle.math.specs.Constants.{zero}
 use Rattle.order.specs.Order.{sortedIndexes}
 use Rattle.layout.specs.declared.rect.PageRect.{PageRect}

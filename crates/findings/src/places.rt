@@ -66,5 +66,5 @@ pub fn mean(values: &[f64], places: &[u32]) -> f64
     ensures { λ r. ⌜ r ≡ meanAt (now (values .entry)) (now (places .entry)) ⌝ }
 {
     let n = places.len();
-    over(math::sum_at::pairwise_sum_at(values, places), n)
+    over(sums::sum_at::pairwise_sum_at(values, places), n)
 }

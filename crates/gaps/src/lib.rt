@@ -84,7 +84,7 @@ pub fn gap_sets(
     let fits = room(n, parents.len(), members.len(), ends.len(), work.len());
     if fits {
         join_all(values, gap, parents);
-        let count = sets::list(parents, n, members, ends, work);
+        let count = listings::list(parents, n, members, ends, work);
         return Answer { number: 0, count };
     }
     Answer {

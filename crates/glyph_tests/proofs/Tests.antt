@@ -1,6 +1,6 @@
 -- Each way out of the tests on one glyph box: the tests before it let the glyph box through, and its own did not.
 use mathlib.Core.Path.{_≡_, sym, ap, ap₂, _∙_}
-use mathlib.Core.Bool.{Bool, true, false, cond, not}
+use mathlib.Core.Bool.{Bool, true, false, cond}
 use Prim.Native.Nat.{ℕ}
 use lib.Ieee.{Float, lt, le}
 use Rattle.rects.specs.Rects.{widthOf, heightOf}

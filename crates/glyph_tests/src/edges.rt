@@ -68,8 +68,8 @@ fn share(mask: &[u8], w: usize, band: Rect, rows: bool) -> f64
     requires { ⌜ Readable (now mask) w band ⌝ }
     ensures { λ s. ⌜ s ≡ lineShare (inkAt w (now (mask .entry))) band rows ⌝ }
 {
-    let best = ink::lines::longest(mask, w, band, rows);
-    best as f64 / ink::lines::lines_of(band, rows) as f64
+    let best = ink_lines::longest(mask, w, band, rows);
+    best as f64 / ink_lines::lines_of(band, rows) as f64
 }
 
 pub fn edge_coverage(mask: &[u8], w: usize, f: Rect, tol: u32) -> f64
@@ -80,8 +80,5 @@ pub fn edge_coverage(mask: &[u8], w: usize, f: Rect, tol: u32) -> f64
     let bottom = share(mask, w, bottom_band(f, tol), false);
     let left = share(mask, w, left_band(f, tol), true);
     let right = share(mask, w, right_band(f, tol), true);
-    math::select::min(
-        math::select::min(math::select::min(top, bottom), left),
-        right,
-    )
+    select::min(select::min(select::min(top, bottom), left), right)
 }

@@ -18,16 +18,16 @@ pub fn frame_of(mask: &[u8], w: usize, r: Rect, fraction: f64) -> Framed
     let height = r.height();
     let row_limit = fraction * width as f64;
     let column_limit = fraction * height as f64;
-    let top = ink::lines::first_line(mask, w, r, true, row_limit);
+    let top = ink_lines::first_line(mask, w, r, true, row_limit);
     if height <= top {
         return Framed::Nothing;
     }
-    let left = ink::lines::first_line(mask, w, r, false, column_limit);
+    let left = ink_lines::first_line(mask, w, r, false, column_limit);
     if width <= left {
         return Framed::Nothing;
     }
-    let bottom = ink::lines::last_line_end(mask, w, r, true, row_limit);
-    let right = ink::lines::last_line_end(mask, w, r, false, column_limit);
+    let bottom = ink_lines::last_line_end(mask, w, r, true, row_limit);
+    let right = ink_lines::last_line_end(mask, w, r, false, column_limit);
     Framed::Frame(Rect {
         x0: r.x0 + left,
         y0: r.y0 + top,

@@ -25,7 +25,7 @@ pub fn limits_of(dpi: u16, xheight: f64, p: RulingsParams) -> Limits
     Limits {
         min_size,
         slack: 1.6 * p.box_max_xh * xheight,
-        min_side: math::select::max(min_size, min_px),
+        min_side: select::max(min_size, min_px),
         max_side: p.box_max_xh * xheight,
         box_overshoot_fraction: p.box_overshoot_fraction,
         box_aspect_tol: p.box_aspect_tol,

@@ -28,7 +28,7 @@ pub fn aspect_missed(width: u32, height: u32, tolerance: f64) -> bool
 {
     let w = width as f64;
     let h = height as f64;
-    math::select::abs(w - h) > tolerance * math::select::max(w, h)
+    select::abs(w - h) > tolerance * select::max(w, h)
 }
 
 // Every side below this is below x: the whole part of x, where that is a number of 64 bits.

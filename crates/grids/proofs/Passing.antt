@@ -14,7 +14,7 @@ use Rattle.rects.specs.Rects.{count, countFits, allInside}
 use Rattle.rects.proofs.Questions.{count-says, all-inside-says}
 use Rattle.grids.specs.Call.{Given, Lent, hasRoom, givenQuestions, questions}
 use Rattle.params.specs.Steps.{SettingsPassed}
-use Rattle.box_sets.specs.Steps.{PassedBoxes}
+use Rattle.box_widths.specs.Steps.{PassedBoxes}
 use Rattle.grids.specs.Steps.{Roomy}
 
 -- two numbers and three tests, in the order of the questions

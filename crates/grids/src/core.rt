@@ -4,7 +4,7 @@ ghost use Prim.Native.Nat.{_<_, _^_};
 ghost use Rattle.rects.specs.Rects.{count};
 ghost use Rattle.params.specs.Limits.{alignLimit};
 ghost use Rattle.params.specs.Steps.{SettingsPassed};
-ghost use Rattle.box_sets.specs.Steps.{PassedBoxes};
+ghost use Rattle.box_widths.specs.Steps.{PassedBoxes};
 ghost use Rattle.grids.specs.Steps.{Roomy, Filled};
 use crate::minimum;
 use params::settings::RulingsParams;

@@ -12,7 +12,7 @@ pub fn choose(members: &[u32], ends: &[u32], count: usize, least: u32, numbers: 
     let mut grids = 0;
     let mut k = 0;
     while k < count {
-        let set = sets::members_of(members, ends, count, k);
+        let set = listings::members_of(members, ends, count, k);
         if least as usize <= set.len() {
             numbers[grids] = k as u32;
             grids += 1;

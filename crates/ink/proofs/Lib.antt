@@ -2,4 +2,3 @@
 pub mod Counts
 pub mod Places
 pub mod Runs
-pub mod Banded

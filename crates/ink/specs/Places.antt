@@ -1,6 +1,6 @@
 -- The first and the last place that passes a test, and the longest unbroken run of such places.
 use mathlib.Core.Bool.{Bool, cond, not}
-use Prim.Native.Nat.{ℕ, zero, suc, _+_, max}
+use Prim.Native.Nat.{ℕ, zero, suc, max}
 use lib.Ieee.{Float, le}
 use Rattle.math.specs.Sum.{whole}
 

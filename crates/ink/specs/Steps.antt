@@ -3,14 +3,10 @@ use mathlib.Core.Bool.{Bool, cond, true, false}
 use mathlib.Core.List.{List}
 use Prim.Native.Nat.{ℕ, suc, _+_, _*_, _≤_, _<_}
 use lib.ListN.{length}
-use Rattle.lists.specs.Lists.{below}
 use Rattle.rects.specs.Rects.{widthOf, heightOf}
 use Rattle.rects.specs.declared.Rect.{Rect}
-use Rattle.ink.specs.Ink.{Ink, many, rowInk, columnInk}
+use Rattle.ink.specs.Ink.{Ink, rowInk, columnInk}
 use mathlib.Core.Path.{_≡_}
-use lib.Ieee.{Float}
-use Rattle.ink.specs.Places.{over}
-use Rattle.ink.specs.declared.bands.Four.{Four}
 
 -- A line of a rectangle is a row or a column of it: how many there are, how long one is, and its ink.
 abbrev pub linesOf : Rect → Bool → ℕ
@@ -49,14 +45,3 @@ pub record Run (q : ℕ → Bool) (n k : ℕ) : Type 0 where
 pub record Longest (q : ℕ → Bool) (n k : ℕ) : Type 0 where
   pub run : Run q n k
   pub most : (l : ℕ) → Run q n l → l ≤ k
-
--- The ink in the columns i to i + 3.
-pub record FourColumns (ink : Ink) (r : Rect) (i : ℕ) (n : Four) : Type 0 where
-  pub first : n .a ≡ columnInk ink r i
-  pub second : n .b ≡ columnInk ink r (i + 1)
-  pub third : n .c ≡ columnInk ink r (i + 2)
-  pub fourth : n .d ≡ columnInk ink r (i + 3)
-
--- No column from `from` up to `to` is over the limit.
-abbrev pub NoneOver : Ink → Rect → Float → ℕ → ℕ → Type 0
-NoneOver ink r limit from to = (k : ℕ) → from ≤ k → k < to → over limit (columnInk ink r k) ≡ false

@@ -6,6 +6,7 @@ ghost use lib.Dec.{eqb, ltb};
 ghost use lib.ListN.{length, getD};
 ghost use Rattle.rects.specs.Rects.{widthOf, heightOf};
 ghost use Rattle.ink.specs.Ink.{inkAt, many, rowInk, columnInk, inkIn};
+ghost use Rattle.ink.specs.Places.{over};
 ghost use Rattle.ink.specs.Steps.{Readable};
 use rects::Rect;
 
@@ -113,4 +114,11 @@ pub fn ink_in(mask: &[u8], w: usize, r: Rect) -> u32
         j += 1;
     }
     n
+}
+
+// Is a line with n places of ink over the limit?
+pub fn is_over(limit: f64, n: u32) -> bool
+    ensures { λ t. ⌜ t ≡ over limit n ⌝ }
+{
+    !(n as f64 <= limit)
 }

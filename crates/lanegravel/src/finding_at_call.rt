@@ -1,6 +1,6 @@
 // A finding read back from its lists (crate `finding_lists`).
 ghost use mathlib.Core.Path.{_≡_};
-ghost use Rattle.finding_lists.specs.Read.{columns, findingAt};
+ghost use Rattle.read_findings.specs.Read.{columns, findingAt};
 ghost use Rattle.answers.specs.FindingAt.{answerOf};
 use answers::finding_at::FindingAtAnswer;
 

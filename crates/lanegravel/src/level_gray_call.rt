@@ -1,5 +1,5 @@
 // Levelling (crate `layout`); pw and ph are the page's sides, w and h the levelled picture's.
-ghost use Rattle.levelling.specs.Call.{LevelGray};
+ghost use Rattle.level_gray.specs.Call.{LevelGray};
 use layout::sides::Sides;
 
 #[no_mangle]
@@ -17,5 +17,5 @@ pub extern "C" fn lanegravel_level_gray(
         (now (out .entry)) (now (out .exit)) r ⌝ }
 {
     let sides = Sides { pw, ph, w, h };
-    levelling::calls::level_gray(sides, gray, shear, shear_x, out)
+    level_gray::level_gray(sides, gray, shear, shear_x, out)
 }

@@ -1,5 +1,5 @@
 -- What a test of two parts, and of every index, says as a loop computes it.
-use mathlib.Core.Path.{_≡_, refl, sym, _∙_}
+use mathlib.Core.Path.{_≡_, refl, _∙_}
 use mathlib.Core.Bool.{Bool, true, _&&_}
 use Prim.Native.Nat.{ℕ, _+_}
 use Rattle.lists.specs.Lists.{everyBelow}

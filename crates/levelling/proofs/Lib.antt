@@ -1,7 +1,4 @@
--- The laws that `levelling`'s proofs and the crates above it cite.
-pub mod Agree
-pub mod Runs
+-- The laws that `levelling`'s proofs cite.
 pub mod Parts
 pub mod Paint
 pub mod Settle
-pub mod Guards

@@ -11,7 +11,8 @@ use lib.ListN.{length, getD, take, drop, replicate, length-drop, length-replicat
 use lib.Seq.{length-take-le}
 use Rattle.layout.specs.declared.sides.Sides.{Sides}
 use Rattle.layout.specs.Tables.{entry}
-use Rattle.levelling.specs.Steps.{Together, Painted, Sheets, Framed, Ready, Shows, Whitened, LevelledArea, InRows, Outside, Columns, Margins, All}
+use Rattle.shear_runs.specs.Steps.{Together}
+use Rattle.levelling.specs.Steps.{Painted, Sheets, Framed, Ready, Shows, Whitened, LevelledArea, InRows, Outside, Columns, Margins, All}
 use Rattle.layout.specs.Level.{columnShows, pageShows, placeShows, levelled}
 use Rattle.layout.proofs.Places.{le-or-lt, rows-apart, row-within, raster-is}
 use Rattle.layout.proofs.Shows.{place-on, place-beside}

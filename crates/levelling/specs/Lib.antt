@@ -1,4 +1,2 @@
--- What a reader must believe of `level_gray`.
-pub mod Call
--- Not needed to read the contracts.
+-- What the contracts of `levelling` say. `Steps` is not needed to read the contracts.
 pub mod Steps

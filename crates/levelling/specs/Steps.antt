@@ -1,7 +1,6 @@
--- What the steps of `level_gray` promise each other. Each writes only what is right, so what is right stays right.
+-- What the steps of levelling promise each other. Each writes only what is right, so what is right stays right.
 use Prim.Native.Nat.{ℕ, _-_, _≤_, _<_, _+_, _*_}
 use mathlib.Core.Path.{_≡_}
-use mathlib.Core.Bool.{Bool, true}
 use mathlib.Core.Logic.{_⊎_}
 use mathlib.Core.List.{List}
 use lib.IntN.{ℤ}
@@ -10,18 +9,6 @@ use Rattle.layout.specs.declared.sides.Sides.{Sides}
 use Rattle.layout.specs.Tables.{entry}
 use Rattle.layout.specs.Level.{placeShows}
 use Rattle.layout.specs.Steps.{NotBelow, Table, Sheared}
-
--- From column `from` on, all columns before column `to` have one entry.
-pub record Run (table : List ℤ) (from to : ℕ) : Type 0 where
-  pub more : from < to
-  pub within : to ≤ length table
-  pub same : (i : ℕ) → from ≤ i → i < to → entry table i ≡ entry table from
-
--- The columns from `from` up to `to` are levelled together; where they are a run, they have one entry.
-pub record Together (table : List ℤ) (from to : ℕ) (run : Bool) : Type 0 where
-  pub more : from < to
-  pub within : to ≤ length table
-  pub same : run ≡ true → (i : ℕ) → from ≤ i → i < to → entry table i ≡ entry table from
 
 -- A part of row y that begins at column `from` shows f.
 pub record Painted (f : ℕ → ℕ → ℕ) (from y : ℕ) (out out′ : List ℕ) : Type 0 where

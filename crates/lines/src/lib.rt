@@ -77,6 +77,6 @@ pub fn lines(positions: &[u64], limit: u64, order: &mut [u32], numbers: &mut [u3
     requires { ⌜ Room (length (now positions)) (now order) (now numbers) ⌝ }
     ensures { λ r. ⌜ Numbered (now (positions .entry)) limit (now (order .entry)) (now (order .exit)) (now (numbers .exit)) r ⌝ }
 {
-    order::sort(positions, order, numbers);
+    sort::sort(positions, order, numbers);
     number(positions, order, limit, numbers)
 }

@@ -1,8 +1,7 @@
 -- Lists of indexes, and lent lists that are written from the front.
 use mathlib.Core.Bool.{Bool, true, false, cond, _&&_, _||_}
 use mathlib.Core.List.{List, [], _∷_, _++_, List·Memᴰ}
-use Prim.Native.Nat.{ℕ, zero, suc, _^_}
-use lib.Dec.{leb, ltb}
+use Prim.Native.Nat.{ℕ, zero, suc}
 use lib.ListN.{length, drop}
 
 -- The numbers below n, in order.

@@ -1,20 +1,20 @@
 -- Bounds of float steps from bounds of their operands, of either sign: what stays below 2 ^ prec stays finite, and rounding doesn't pass a whole bound.
 use mathlib.Core.Path.{_≡_, refl, sym, ap, _∙_, subst}
-use Prim.Native.Nat.{ℕ, suc, _+_, _-_, _*_, _/_, _^_, _≤_, _<_}
-use native.Mathlib.Nat.{sub-le, add-mul, mul-one, mul-assoc, mul-comm, mul-left-comm, mul-right-comm, mul-mul-mul-comm, mul-pos, mul-le-mul, mul-le-mul-left, mul-le-mul-right, mul-lt-mul-of-pos-right, le-trans, le-of-eq, le-add-left, le-add-right, lt-of-lt-of-le, lt-of-le-of-lt, le-of-mul-le-mul-right, add-sub-cancel-left, add-le-add}
+use Prim.Native.Nat.{ℕ, suc, _+_, _-_, _*_, _^_, _≤_, _<_}
+use native.Mathlib.Nat.{sub-le, add-mul, mul-assoc, mul-comm, mul-right-comm, mul-mul-mul-comm, mul-pos, mul-le-mul, mul-le-mul-right, mul-lt-mul-of-pos-right, le-trans, le-of-eq, le-add-left, le-add-right, lt-of-lt-of-le, lt-of-le-of-lt, le-of-mul-le-mul-right, add-sub-cancel-left, add-le-add}
 use native.Mathlib.Omega.{arith}
-use mathlib.Core.Bool.{Bool, true, false, not, _&&_, cond, Bool·beq}
+use mathlib.Core.Bool.{Bool, true, false, _&&_, cond, Bool·beq}
 use lib.Dec.{T, ltb}
 use lib.Pow.{pow-add, pow-pos, pow-mono}
-use lib.Ieee.{Float, nan, inf, fin, Format, prec, emax, low, up, down, unlike, round, sum, add, sub, mul, div, neg, lt, isNan}
+use lib.Ieee.{Float, nan, inf, fin, Format, prec, emax, low, down, unlike, round, sum, add, sub, mul, div, neg, lt, isNan}
 use lib.Ieee.Exact.{HasValue}
-use lib.Ieee.Fits.{reach, down-pos}
+use lib.Ieee.Fits.{reach}
 use lib.Ieee.Nearest.{closest}
 use lib.Ieee.Order.{drop}
 use lib.Ieee.Positive.{num, den, den-pos, first-pos}
 use lib.Ieee.Scale.{grid, overflow, finite}
 use Rattle.math.specs.Select.{negative, absolute, clampTo, minimumNumber, maximumNumber}
-use Rattle.math.proofs.Value.{mul-value, div-value, add-value, sub-value}
+use Rattle.math.proofs.Value.{mul-value, div-value, add-value}
 use Rattle.math.proofs.Ulp.{Half, closest-half, round-value, unit-le}
 
 -- x is finite, and its size is at most the whole number n

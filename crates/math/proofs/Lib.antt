@@ -4,12 +4,9 @@ pub mod Ulp
 pub mod Bound
 pub mod Mean
 pub mod Sums
-pub mod Halves
-pub mod SumAt
 pub mod SumBound
 pub mod Quotient
 pub mod Rounded
 pub mod Order
 pub mod Tests
-pub mod Cast
 pub mod Limit

@@ -2,16 +2,16 @@
 -- Each result is below 256 in size, so each rounding is off by half of 2 ^ -45 at most.
 use mathlib.Core.Path.{_≡_, refl, sym, ap, _∙_, subst}
 use Prim.Native.Nat.{ℕ, _+_, _-_, _*_, _^_, _≤_, _<_}
-use native.Mathlib.Nat.{mul-one, one-mul, zero-mul, add-mul, mul-add, mul-assoc, mul-comm, mul-left-comm, mul-right-comm, mul-pos, mul-le-mul-left, mul-le-mul-right, mul-lt-mul-of-pos-right, le-trans, le-of-eq, lt-of-le-of-lt, lt-of-lt-of-le, le-of-mul-le-mul-right, sub-add-cancel, sub-le, le-of-lt}
+use native.Mathlib.Nat.{mul-one, one-mul, zero-mul, add-mul, mul-add, mul-assoc, mul-comm, mul-left-comm, mul-right-comm, mul-pos, mul-le-mul-left, mul-le-mul-right, le-trans, le-of-eq, le-of-mul-le-mul-right, sub-add-cancel, sub-le, le-of-lt}
 use native.Mathlib.Omega.{arith}
 use mathlib.Core.Bool.{Bool, true, false, not, cond, true≢false}
-use lib.Dec.{T, ltb, ltb→lt, nltb→le, lit≤, lit<}
+use lib.Dec.{T, ltb, ltb→lt, nltb→le, lit<}
 use lib.IntN.{pos}
 use lib.Pow.{pow-pos}
 use lib.Ieee.{Float, nan, inf, fin, binary64, prec, low, down, up, round, sum, sub, div, ofInt}
 use lib.Ieee.Back.{round-whole}
 use lib.Ieee.Exact.{HasValue}
-use lib.Ieee.Scale.{grid, overflow, round-same}
+use lib.Ieee.Scale.{grid, round-same}
 use Rattle.math.specs.Near.{Within}
 use Rattle.math.proofs.Value.{div-value, sub-value}
 use Rattle.math.proofs.Ulp.{Half, half-unit, round-value}

@@ -1,6 +1,6 @@
 -- Order and rounding: of two fractions of either sign the larger never rounds to the smaller value, in either format, overflow to an infinity included.
 -- The kit has it for fractions that are not negative (`round-mono`); a sign turns the order round.
-use mathlib.Core.Path.{_≡_, sym, _∙_, subst, subst₂}
+use mathlib.Core.Path.{sym, _∙_, subst, subst₂}
 use Prim.Native.Nat.{ℕ, _+_, _*_, _≤_, _<_}
 use native.Mathlib.Nat.{add-comm}
 use mathlib.Core.Bool.{Bool, true, false, _&&_, _||_}

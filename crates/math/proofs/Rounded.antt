@@ -1,20 +1,20 @@
 -- Rounding to a whole number, and casts: the doubled value is exact, so its whole part plus one, halved, is the nearest whole number; from 2 ^ 52 on a float is whole already.
 use mathlib.Core.Path.{_≡_, refl, sym, ap, _∙_, subst}
-use Prim.Native.Nat.{ℕ, zero, suc, _+_, _-_, _*_, _/_, _^_, _≤_, _<_, min, zero-le}
-use native.Mathlib.Nat.{le-refl, le-trans, le-of-eq, lt-of-lt-of-le, lt-of-le-of-lt, lt-of-mul-lt-mul-right, mul-one, one-mul, zero-mul, mul-assoc, mul-comm, mul-left-comm, mul-right-comm, mul-pos, mul-le-mul-left, mul-le-mul-right, mul-lt-mul-of-pos-right, pow-succ', add-div-right, div-div-eq-div-mul, div-lt-iff-lt-mul, div-eq-of-lt, two-mul, add-mul, not-le-of-lt, lt-irrefl, div-one, zero-lt-suc, le-add-right, le-of-lt, div-mul-le-self, lt-div-mul-add}
+use Prim.Native.Nat.{ℕ, zero, suc, _+_, _-_, _*_, _/_, _^_, _≤_, _<_, min}
+use native.Mathlib.Nat.{le-trans, le-of-eq, lt-of-lt-of-le, lt-of-le-of-lt, lt-of-mul-lt-mul-right, mul-one, zero-mul, mul-assoc, mul-comm, mul-left-comm, mul-right-comm, mul-pos, mul-le-mul-left, mul-le-mul-right, mul-lt-mul-of-pos-right, pow-succ', add-div-right, div-div-eq-div-mul, div-lt-iff-lt-mul, div-eq-of-lt, two-mul, add-mul, le-add-right, le-of-lt, div-mul-le-self, lt-div-mul-add}
 use native.Mathlib.Omega.{arith}
-use mathlib.Core.Bool.{Bool, true, false, not, _&&_, cond, true≢false}
+use mathlib.Core.Bool.{Bool, true, false, cond, true≢false}
 use lib.IntN.{ℤ, pos, negsuc}
-use lib.Dec.{T, ltb, leb, eqb, ltb→lt, lt→ltb, nltb→le, lit<, lit≤}
-use lib.Pow.{pow-add, pow-pos, pow-mono, pow-lt}
+use lib.Dec.{T, ltb, lt→ltb, lit<, lit≤}
+use lib.Pow.{pow-add, pow-pos}
 use lib.Ieee.{Float, nan, inf, fin, Format, binary64, prec, emax, low, up, down, units, odd, round, sum, add, neg, lt, fits, toUnsigned, ofInt, ofBits}
 use lib.Ieee.Exact.{HasValue}
-use lib.Ieee.Fits.{and-l, and-r, down-pos, round-is}
+use lib.Ieee.Fits.{down-pos, round-is}
 use lib.Ieee.Nearest.{div-same}
 use lib.Ieee.Positive.{num, den}
 use lib.Ieee.Order.{drop, kept}
 use borrow.Author.Tests.{ltb-true, ltb-false}
-use lib.Ieee.Scale.{round-same, finite}
+use lib.Ieee.Scale.{round-same}
 use Rattle.math.specs.Constants as Constants
 use Rattle.math.specs.Rounding.{nearestWhole, roundAway}
 use Rattle.math.proofs.Tests.{no-less}

@@ -1,17 +1,15 @@
 -- The bound of a pairwise sum: n values of at most b each make a sum of at most n * b, as long as that is below 2 ^ 53.
 use mathlib.Core.Path.{_≡_, refl, sym, ap, _∙_, subst}
-use Prim.Native.Nat.{ℕ, zero, suc, _+_, _-_, _*_, _/_, _^_, _≤_, _<_, min}
-use native.Mathlib.Nat.{le-of-eq, le-trans, lt-of-le-of-lt, le-add-left, le-add-right, zero-mul, zero-add, add-zero, add-mul, suc-mul, add-assoc, add-comm}
+use Prim.Native.Nat.{ℕ, zero, suc, _+_, _-_, _*_, _/_, _^_, _<_}
+use native.Mathlib.Nat.{le-of-eq, lt-of-le-of-lt, le-add-left, le-add-right, zero-add, add-mul, suc-mul}
 use native.Mathlib.Omega.{arith}
 use mathlib.Core.Bool.{Bool, true, false}
-use mathlib.Core.List.{List, [], _∷_, _++_}
-use lib.Dec.{T}
+use mathlib.Core.List.{List, [], _∷_}
 use lib.ListN.{length, take, drop, length-append, take-append-drop}
 use lib.Ieee.{Float, binary64, add}
-use lib.Ieee.Exact.{HasValue}
 use Rattle.math.specs.Constants as Constants
 use Rattle.math.specs.Sum.{addedTo, short, halved, pairwiseSum}
-use Rattle.math.proofs.Bound.{AtMost, value-at-most, weaken, add-at-most}
+use Rattle.math.proofs.Bound.{AtMost, weaken, add-at-most}
 
 -- every value is at most b in size
 abbrev pub Each : ℕ → List Float → Type 0

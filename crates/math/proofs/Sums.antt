@@ -1,21 +1,21 @@
 -- `pairwiseSum` by the sentence of document 01, whatever number of cuts it is given; and sums of whole numbers, which are exact.
 -- A list is longer than either half, so as many cuts as it has values are enough.
-use mathlib.Core.Path.{_≡_, refl, sym, ap, ap₂, _∙_, subst}
+use mathlib.Core.Path.{_≡_, refl, sym, ap, ap₂, _∙_}
 use Prim.Native.Nat.{ℕ, zero, suc, _+_, _-_, _*_, _/_, _^_, _≤_, _<_, min}
-use native.Mathlib.Nat.{le-refl, le-trans, le-of-eq, le-suc, le-add-left, le-add-right, mul-one, zero-mul, suc-mul, zero-add, add-zero, add-assoc}
+use native.Mathlib.Nat.{le-refl, le-trans, le-of-eq, le-suc, le-add-right, mul-one, zero-mul, suc-mul, zero-add, add-zero, add-assoc}
 use native.Mathlib.Omega.{arith}
 use native.Mathlib.Numerals.{add-one}
-use mathlib.Core.Bool.{Bool, true, false, cond}
+use mathlib.Core.Bool.{Bool, true, false}
 use mathlib.Core.List.{List, [], _∷_, map}
 use lib.Dec.{T, leb, le→leb}
 use lib.IntN.{pos}
 use lib.ListN.{length, getD, take, drop, length-take, length-drop, drop-of-length-le}
 use lib.Seq.{drop-cons}
 use lib.Pow.{pow-pos}
-use lib.Ieee.{Float, nan, binary64, prec, round, sum, add, ofInt, inFloat}
+use lib.Ieee.{Float, nan, binary64, round, sum, add, ofInt, inFloat}
 use lib.Ieee.Back.{round-whole}
 use lib.Ieee.Exact.{HasValue}
-use borrow.Author.Tests.{leb-true, leb-false, le-leb, lt-leb}
+use borrow.Author.Tests.{leb-false, le-leb, lt-leb}
 use Rattle.math.specs.Constants as Constants
 use Rattle.math.specs.Sum.{addedTo, short, halved, pairwiseSum}
 unfoldable pub use Rattle.math.specs.Sum.{whole, total}

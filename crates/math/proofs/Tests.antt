@@ -1,19 +1,17 @@
 -- What the tests of `math`'s functions say of a float: of its sign, of whether it is finite, and of its place beside a constant.
 use mathlib.Core.Path.{_≡_, refl, sym, ap, _∙_, subst}
-use Prim.Native.Nat.{ℕ, zero, suc, _+_, _-_, _*_, _/_, _%_, _^_, _≤_, _<_, min}
-use native.Mathlib.Nat.{le-refl, lt-irrefl, mul-one, one-mul, zero-mul, mul-pos, le-of-eq, le-trans, lt-of-lt-of-le, lt-of-le-of-lt, sub-self, le-div-iff-mul-le, eq-or-lt-of-le}
+use Prim.Native.Nat.{ℕ, zero, suc, _+_, _-_, _*_, _/_, _%_, _≤_, _<_}
+use native.Mathlib.Nat.{le-refl, zero-mul, mul-pos, sub-self}
 use native.Mathlib.Omega.{arith}
 use mathlib.Core.Bool.{Bool, true, false, not, _&&_, _||_, cond, true≢false, Bool·beq}
-use mathlib.Core.Logic.{_⊎_, inl, inr}
-use lib.IntN.{ℤ, pos, negsuc}
-use lib.Dec.{T, ltb, leb, eqb, eqb-refl, ltb→lt, lt→ltb}
+use lib.IntN.{ℤ}
+use lib.Dec.{T, ltb, leb, eqb}
 use lib.Pow.{pow-pos}
-use lib.Ieee.{Float, nan, inf, fin, Format, binary64, prec, low, up, down, odd, round, sum, sub, neg, lt, le, eq, ne, isNan, fits, toSigned, top, hid, ones, ofFields, ofBits, toBits}
+use lib.Ieee.{Float, nan, inf, fin, Format, binary64, prec, low, up, down, odd, round, sum, sub, neg, lt, eq, ne, isNan, fits, top, hid, ones, ofFields, ofBits, toBits}
 use lib.Ieee.Bits.{ofBits-toBits, ofBits-fits}
-use lib.Ieee.Exact.{HasValue}
 use lib.Ieee.Fits.{down-pos}
 use lib.Ieee.Scale.{finite, round-same}
-use borrow.Author.Tests.{ltb-true, ltb-false, eqb-true, eqb-false, lt-ltb, le-ltb, eq-eqb, ne-eqb}
+use borrow.Author.Tests.{ltb-true, ltb-false, eqb-true, le-ltb, eq-eqb}
 use Rattle.math.specs.Constants as Constants
 use Rattle.math.specs.Select.{absolute, negative}
 use Rattle.math.proofs.Value.{same-value, sub-value}

@@ -2,12 +2,12 @@
 -- `HasValue x s a c` (of the kit) says that x is finite with the sign s and the size a / c.
 use mathlib.Core.Path.{_≡_, refl, sym, ap, _∙_, subst}
 use Prim.Native.Nat.{ℕ, zero, suc, _+_, _-_, _*_, _/_, _%_, _^_, _≤_, _<_}
-use native.Mathlib.Nat.{lt-of-le-of-lt, lt-of-lt-of-le, le-of-eq, le-trans, mul-assoc, mul-comm, mul-left-comm, mul-right-comm, mul-mul-mul-comm, mul-pos, mul-one, one-mul, add-mul, mul-sub, mul-lt-mul-of-pos-right, lt-of-mul-lt-mul-right, zero-lt-suc, zero-mul, sub-add-cancel, mul-le-mul-right, le-of-mul-le-mul-right, le-of-suc-le-suc, lt-of-not-le, lt-irrefl, ne-of-gt}
+use native.Mathlib.Nat.{lt-of-lt-of-le, mul-assoc, mul-comm, mul-left-comm, mul-right-comm, mul-mul-mul-comm, mul-pos, mul-one, add-mul, mul-sub, mul-lt-mul-of-pos-right, lt-of-mul-lt-mul-right, zero-mul, le-of-suc-le-suc, lt-of-not-le, lt-irrefl, ne-of-gt}
 use native.Mathlib.Omega.{arith}
 use mathlib.Core.Bool.{Bool, true, false, not, _&&_, cond, Bool·beq}
 use lib.IntN.{ℤ, pos, negsuc}
-use lib.Dec.{T, ltb, leb, eqb, ltb→lt, lt→ltb, leb→le, eqb→eq}
-use lib.Pow.{pow-add, pow-pos, pow-mono, pow-lt, shl-lt}
+use lib.Dec.{T, ltb, leb, eqb, ltb→lt, lt→ltb, leb→le}
+use lib.Pow.{pow-add, pow-pos, pow-lt, shl-lt}
 use lib.Ieee.{Float, nan, inf, fin, Format, prec, emax, low, up, down, unlike, size, round, sum, add, sub, mul, div, neg, fits, toBits, ofBits, top, hid}
 use lib.Ieee.Bits.{ofBits-toBits}
 use lib.Ieee.Exact.{HasValue, round-exact}

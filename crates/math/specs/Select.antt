@@ -1,5 +1,5 @@
 -- Sign, smaller, larger and clamped values.
-use mathlib.Core.Bool.{Bool, true, false, cond}
+use mathlib.Core.Bool.{Bool, false, cond}
 use lib.Ieee.{Float, nan, inf, fin, isNan, lt, neg}
 
 -- IEEE 754-2019, 5.5.1, abs: the sign is taken off, of a zero too.

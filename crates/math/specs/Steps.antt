@@ -5,7 +5,6 @@ use lib.IntN.{ℤ, pos, natAbs}
 use lib.Ieee.{Float}
 use mathlib.Core.List.{List}
 use lib.ListN.{length, getD}
-use Rattle.math.specs.Sum.{whole}
 
 -- z is a whole number from 0 to n.
 pub record UpTo (n : ℕ) (z : ℤ) : Type 0 where

@@ -1,5 +1,2 @@
-// Float steps: document 01 names each, IEEE 754-2019 and The Rust Reference give its meaning.
-pub mod rounding;
-pub mod select;
-pub mod sum;
-pub mod sum_at;
+// Definitions and laws only: the float steps that document 01 names, as IEEE 754-2019 and The Rust Reference give their meaning.
+// `rounding`, `select` and `sums` have the functions.

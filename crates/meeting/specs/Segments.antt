@@ -1,7 +1,7 @@
 -- Rulings as `tables` sees them: when two touch, and when an end is joined.
 use mathlib.Core.Bool.{Bool, true, false, cond, not, _&&_}
 use mathlib.Core.List.{List}
-use Prim.Native.Nat.{ℕ, _+_, _-_, _*_}
+use Prim.Native.Nat.{ℕ, _+_, _*_}
 use lib.Dec.{leb, eqb}
 use lib.ListN.{getD}
 use Rattle.rects.specs.declared.Rect.{Rect}

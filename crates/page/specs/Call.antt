@@ -2,21 +2,19 @@
 use mathlib.Core.Path.{_≡_}
 use mathlib.Core.Bool.{cond}
 use mathlib.Core.Logic.{_⊎_}
-use mathlib.Core.List.{List, map}
-use Prim.Native.Nat.{ℕ}
+use mathlib.Core.List.{map}
 use lib.Dec.{eqb}
 use lib.ListN.{length}
 use Rattle.lists.specs.Lists.{concat, written}
 use Rattle.sets.specs.Listing.{endsFrom, ReadAs}
 use Rattle.questions.specs.Questions.{firstMissed}
-use Rattle.rects.specs.Rects.{count}
 use Rattle.layout.specs.Level.{Levelling}
 use Rattle.params.specs.Limits.{IsLimit, acrossLimit, gapLimit, alignSetting, alignLimit}
 use Rattle.ink.specs.Ink.{inkAt}
 use Rattle.segments.specs.Call as Segments
 use Rattle.tables.specs.Call as Tables
 use Rattle.glyph_tests.specs.Limits.{boxLimitsOf}
-use Rattle.boxes.specs.Boxes.{EveryBox}
+use Rattle.box_lists.specs.Boxes.{EveryBox}
 use Rattle.boxes.specs.Call.{pagePlaces}
 use Rattle.reading_order.specs.Reading.{readingOrder}
 use Rattle.grids.specs.Call as Grids

@@ -1,9 +1,9 @@
 -- A page as `detect` is given it, and what document 01 says is found on it, list by list.
-use mathlib.Core.List.{List, [], map}
+use mathlib.Core.List.{List, []}
 use Prim.Native.Nat.{ℕ}
 use lib.IntN.{ℤ}
 use lib.Ieee.{Float}
-use lib.ListN.{length, getD}
+use lib.ListN.{getD}
 use Rattle.layout.specs.declared.sides.Sides.{Sides}
 use Rattle.layout.specs.Level.{levelled}
 use Rattle.params.specs.declared.settings.RulingsParams.{RulingsParams}
@@ -15,7 +15,7 @@ use Rattle.shapes.specs.declared.limits.Limits.{Limits}
 use Rattle.shapes.specs.Limits.{tableLimitsOf}
 use Rattle.tables.specs.Call as Tables
 use Rattle.glyph_tests.specs.declared.found.CheckBox.{CheckBox}
-use Rattle.boxes.specs.Boxes as Boxes
+use Rattle.box_lists.specs.Boxes as Boxes
 use Rattle.boxes.specs.Call.{pageBoxes}
 use Rattle.grids.specs.Grids as Grids
 use Rattle.grids.specs.Call.{setsOf}

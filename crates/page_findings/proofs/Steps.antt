@@ -1,11 +1,9 @@
 -- What each stage asks, from what is given and what the stages before it left; and what it leaves, said of the lists as they were at first.
-use mathlib.Core.Path.{_≡_, refl, sym, ap, ap₂, subst, transport, _∙_}
-use mathlib.Core.Bool.{Bool, _&&_}
+use mathlib.Core.Path.{_≡_, sym, ap, subst, transport, _∙_}
 use mathlib.Core.List.{List, map}
 use Prim.Native.Nat.{ℕ, _+_, _*_, _^_, _≤_, _<_}
 use native.Mathlib.Omega.{arith}
 use lib.IntN.{ℤ}
-use lib.Ieee.{Float}
 use lib.ListN.{length, getD, take, length-map}
 use lib.Seq.{sets}
 use Rattle.lists.specs.Lists.{written}
@@ -17,19 +15,16 @@ use Rattle.params.specs.declared.settings.RulingsParams.{RulingsParams}
 use Rattle.params.specs.declared.settings.FusionParams.{FusionParams}
 use Rattle.evidence.specs.Kinds.{isFold}
 use Rattle.finding_lists.specs.Columns.{Columns}
-use Rattle.finding_lists.specs.Steps.{Wrote, RanksGiven}
-use Rattle.findings.specs.Steps.{gridKey, gridKeys, Mapping, NumbersGiven, PlacesGiven, AllGiven, Front, TablesGiven, GridRectsGiven, GridsGiven, RectsGiven, FirstKeyed, AllRanked, WriteRoom, PageFound}
-use Rattle.findings.specs.Made.{Scan, tableAt, freePlaces, freeOf, freeCount, foldInches, folds, foldAt, gridOf}
+use Rattle.findings.specs.Steps.{gridKey, gridKeys, Mapping, NumbersGiven, PlacesGiven, AllGiven, Front, GridRectsGiven, RectsGiven, FirstKeyed, AllRanked}
+use Rattle.findings.specs.Made.{Scan, freePlaces, freeCount, foldInches, folds}
 use Rattle.findings.proofs.OnPage.{placed-most}
 use Rattle.findings.proofs.Given.{grid-rects-given}
 use Rattle.findings.proofs.Runs as Runs
-use Rattle.findings.proofs.Whole.{rects-of, free-given, kept-given, write-room, number-is, kept-few}
-use Rattle.findings.proofs.Writes as Writes
-use Rattle.findings.proofs.Demand.{findings-paired}
-use Rattle.finding_stages.specs.Steps.{FaintLong, FirstLong, TablesLong, RulesLong, BoxesLong}
+use Rattle.findings.proofs.Whole.{rects-of, free-given, kept-given, kept-few}
+use Rattle.finding_stages.specs.Steps.{FaintLong, FirstLong}
 use Rattle.page.specs.declared.counts.Counts.{Counts}
 use Rattle.page.proofs.Bundle.{cut}
-use Rattle.page_findings.specs.Steps.{Sources, Work, Ready, Left, ruled, printed, faint, tabled, free, boxed}
+use Rattle.page_findings.specs.Steps.{Sources, Work, Ready, ruled, printed, faint, tabled, free, boxed}
 
 -- four numbers a rectangle
 quarter : (n : ℕ) (l : List ℕ) → 4 * n ≤ length l → count (take (4 * n) l) ≡ n

@@ -1,5 +1,5 @@
 -- The stages that write: each finds the ranks of its findings and the room that the ones before it left.
-use mathlib.Core.Path.{_≡_, sym, ap, subst, transport, _∙_}
+use mathlib.Core.Path.{_≡_, sym, ap, transport, _∙_}
 use mathlib.Core.Bool.{Bool, _&&_}
 use mathlib.Core.List.{List}
 use Prim.Native.Nat.{ℕ, _+_, _*_, _≤_}

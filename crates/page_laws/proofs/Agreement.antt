@@ -7,7 +7,7 @@ use lib.ListN.{length, take, drop}
 use lib.Seq.{take-append-seam}
 use Rattle.lists.specs.Lists.{concat, written}
 use Rattle.sets.specs.Listing.{endsFrom}
-use Rattle.levelling.specs.Call.{LevelGray}
+use Rattle.level_gray.specs.Call.{LevelGray}
 use Rattle.segments.specs.declared.segments.Answer as RulingsAnswer
 use Rattle.segments.specs.Call as Segments
 use Rattle.tables.specs.declared.Answer as TablesAnswer

@@ -1,7 +1,7 @@
 -- What a call leaves is a function of the page and of what the lists held, so two calls leave the same.
 use mathlib.Core.Path.{_≡_, refl, sym, ap, ap₂, subst, _∙_}
-use mathlib.Core.Bool.{Bool, true, false, cond, _&&_}
-use mathlib.Core.Logic.{_⊎_, inl, inr}
+use mathlib.Core.Bool.{Bool, cond, _&&_}
+use mathlib.Core.Logic.{inl, inr}
 use mathlib.Core.List.{List, [], _∷_, _++_, map}
 use Prim.Native.Nat.{ℕ, zero, suc, _+_, _*_, _<_}
 use native.Mathlib.Omega.{arith}
@@ -15,13 +15,12 @@ use Rattle.layout.specs.Sides.{rasterFits}
 use Rattle.evidence.specs.Finding.{rowOf}
 use Rattle.finding_lists.specs.Columns.{rectOf, fact, score}
 use Rattle.findings.specs.Made.{everyFinite}
-use Rattle.page.specs.declared.answer.Answer.{Answer}
 use Rattle.page.specs.Page as Page
 use Rattle.page.specs.Page.{Page}
 use Rattle.page.specs.Lent.{RuleLists, MarkLists, Lent, rulingsFit, tablesFit, boxesFit, findingsFit, workFits}
 use Rattle.page.specs.Questions.{allQuestions, roomy, givenQuestions}
 use Rattle.page.specs.Answer.{accepted, refusal}
-use Rattle.page.specs.Call.{Detect, Answers, RuleAnswers, MarkAnswers, countsOf}
+use Rattle.page.specs.Call.{Answers, RuleAnswers, MarkAnswers, countsOf}
 use Rattle.page_laws.specs.Demand1.{rulesAnswered, marksAnswered, SameAnswers, workRoom, Demand1}
 
 -- a list that is written from the front keeps what two held alike

@@ -1,22 +1,22 @@
 -- What `tables` finds hangs on the rulings at the indexes of its sets alone: two lists of rulings that agree there give the same tables.
-use mathlib.Core.Path.{_≡_, refl, sym, ap, ap₂, _∙_}
-use mathlib.Core.Bool.{Bool, true, false, cond, not, _&&_, _||_}
+use mathlib.Core.Path.{_≡_, refl, ap, ap₂, _∙_}
+use mathlib.Core.Bool.{Bool, true, false, cond, _&&_, _||_}
 use mathlib.Core.List.{List, [], _∷_, map, List·Memᴰ·head, List·Memᴰ·tail, List·Memᴰ·eq-of-singleton}
 use Prim.Native.Nat.{ℕ, zero, suc, _+_, _-_, _*_, _/_, _<_}
 use native.Mathlib.Omega.{arith}
 use lib.Dec.{eqb, leb}
 use lib.IntN.{pos}
-use lib.Ieee.{Float, binary64, div, ofInt}
+use lib.Ieee.{binary64, div, ofInt}
 use lib.ListN.{length, getD, length-map}
 use Rattle.lists.specs.Lists.{In, below, keep, any}
 use Rattle.lists.proofs.Keep.{below-in, kept-in, keep-below-same, at-in, getD-map, map-same}
 use Rattle.sets.specs.Listing.{grow, grown, closedSet, closedSets}
 use Rattle.lines.specs.Lines.{lineCount}
 use Rattle.meeting.specs.declared.segment.Segment.{Segment}
-use Rattle.meeting.specs.Segments.{touches, joinsEnd}
-use Rattle.meeting.specs.Meeting.{touch, rulingSets, endJoined, joinedEnds, shareOf}
+use Rattle.meeting.specs.Segments.{joinsEnd}
+use Rattle.meeting.specs.Meeting.{endJoined, joinedEnds, shareOf}
 use Rattle.shapes.specs.declared.limits.Limits.{Limits}
-use Rattle.shapes.specs.Shapes.{inDirection, members, positions, linesOf, hasMinima, hasTwoLines, isTable, rowsOf, columnsOf}
+use Rattle.shapes.specs.Shapes.{inDirection, members, positions, linesOf, isTable}
 
 -- ---- tests that agree on a list's entries
 

@@ -1,12 +1,11 @@
 -- The rulings at some places, handed to `tables` as lists of their own, give the tables that are found among those places.
-use mathlib.Core.Path.{_≡_, refl, sym, ap, ap₂, _∙_}
+use mathlib.Core.Path.{_≡_, refl, ap, ap₂, _∙_}
 use mathlib.Core.Bool.{true, false, not}
 use mathlib.Core.List.{List, [], _∷_, map, List·Memᴰ·head, List·Memᴰ·tail}
 use Prim.Native.Nat.{ℕ, _-_, _<_}
 use native.Mathlib.Omega.{arith}
-use lib.Ieee.{Float}
 use lib.ListN.{length, getD}
-use Rattle.lists.specs.Lists.{In, below, keep, concat}
+use Rattle.lists.specs.Lists.{In, below, concat}
 use Rattle.lists.proofs.Keep.{length-below, getD-below, below-in, kept-in, keep-below-same, getD-map, map-same}
 use Rattle.sets.specs.Listing.{closedSets}
 use Rattle.rects.specs.declared.Rect.{Rect}

@@ -1,7 +1,6 @@
 -- What the smaller calls list, given what a page gives them, `detect` lists too.
 use mathlib.Core.Path.{_≡_}
 use mathlib.Core.List.{List, map}
-use Prim.Native.Nat.{ℕ}
 use lib.ListN.{length, getD, take}
 use Rattle.lists.specs.Lists.{concat}
 use Rattle.sets.specs.Listing.{endsFrom}

@@ -1,16 +1,16 @@
 -- One pair more: the rule of k + 1 pairs is that of k pairs and pair k.
-use mathlib.Core.Path.{_≡_, refl, sym, ap, _∙_, subst}
-use mathlib.Core.Bool.{Bool, true, false, _&&_, _||_, true≢false}
+use mathlib.Core.Path.{_≡_, refl, sym, ap, _∙_}
+use mathlib.Core.Bool.{Bool, true, false, _&&_, _||_}
 use mathlib.Core.Logic.{_⊎_, inl, inr}
 use mathlib.Core.List.{List, [], _∷_, _++_}
-use Prim.Native.Nat.{ℕ, suc, _+_, _*_, _<_}
+use Prim.Native.Nat.{ℕ, _+_, _*_, _<_}
 use native.Mathlib.Numerals.{add-one}
 use lib.Dec.{eqb}
-use lib.ListN.{length, getD}
+use lib.ListN.{getD}
 use borrow.Author.Tests.{eqb-true, eq-eqb}
 use Rattle.lists.specs.Lists.{below, any}
 use Rattle.lists.proofs.Every.{and-first, and-second, and-both}
-use Rattle.sets.specs.Closed.{Below, Touching}
+use Rattle.sets.specs.Closed.{Below}
 use Rattle.sets.specs.Steps.{Joins, Joined}
 use Rattle.sets.proofs.Joins.{joins-more}
 use Rattle.pairs.specs.Pairs.{paired, Paired}

@@ -58,7 +58,7 @@ pub fn pair_sets(
         & indexes_below(pairs, n);
     if fits {
         join_pairs(pairs, n, parents);
-        let count = sets::list(parents, n, members, ends, work);
+        let count = listings::list(parents, n, members, ends, work);
         return Answer { number: 0, count };
     }
     Answer {

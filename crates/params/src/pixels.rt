@@ -10,7 +10,7 @@ pub fn limit(setting: f64, xheight: f64) -> u64
     requires { ⌜ UpTo (2 * 1000000 * 4096) (roundedProduct setting xheight) ⌝ }
     ensures { λ r. ⌜ r ≡ limitOf setting xheight ⌝ }
 {
-    math::rounding::rounded_product(setting, xheight) as u64
+    rounding::rounded_product(setting, xheight) as u64
 }
 
 // The same in 32 bits, which hold every limit that is not doubled.

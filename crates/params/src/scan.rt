@@ -6,7 +6,7 @@ ghost use Rattle.params.specs.Scan.{xheightInRange, scanQuestions, xheig
 fn xheight_in_range(xheight: f64) -> bool
     ensures { λ r. ⌜ r ≡ xheightInRange xheight ⌝ }
 {
-    math::select::finite(xheight) & (0.0 < xheight) & (xheight <= 4096.0)
+    select::finite(xheight) & (0.0 < xheight) & (xheight <= 4096.0)
 }
 
 pub fn missed_by_scan(dpi: u16, xheight: f64) -> u32

@@ -11,7 +11,7 @@ use crate::settings::RulingsParams;
 fn bounded(x: f64) -> bool
     ensures { λ r. ⌜ r ≡ bounded x ⌝ }
 {
-    math::select::finite(x) & (math::select::abs(x) <= 1000000.0)
+    select::finite(x) & (select::abs(x) <= 1000000.0)
 }
 
 // No early way out, so that the invariant is one equation.
@@ -131,7 +131,7 @@ pub fn validate(p: RulingsParams) -> u32
 fn from_zero_to_million(x: f64) -> bool
     ensures { λ r. ⌜ r ≡ fromZeroToMillion x ⌝ }
 {
-    math::select::finite(x) & (0.0 <= x) & (x <= 1000000.0)
+    select::finite(x) & (0.0 <= x) & (x <= 1000000.0)
 }
 
 // Question 12.

@@ -1,5 +1,5 @@
 -- Document 01's rule pieces: direction, doubled centre, span, and when two touch.
-use Prim.Native.Nat.{ℕ, _+_, _-_, _*_, _≤_, _<_, min, max}
+use Prim.Native.Nat.{ℕ, _+_, _-_, _*_, min, max}
 use mathlib.Core.Path.{_≡_}
 use mathlib.Core.Bool.{Bool, true, not, cond, _&&_}
 use mathlib.Core.List.{List}

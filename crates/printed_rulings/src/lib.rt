@@ -1,7 +1,5 @@
 // Printed and faint rulings, told apart by their contrasts.
 ghost use mathlib.Core.Path.{_≡_};
-ghost use Prim.Native.Nat.{_≤_};
-ghost use lib.ListN.{length};
 ghost use Rattle.printed_rulings.specs.Printed.{printed};
 ghost use Rattle.printed_rulings.specs.Steps.{SplitByContrast, RoomForPlaces};
 use params::settings::RulingsParams;

@@ -10,9 +10,9 @@ use Rattle.rects.specs.Steps.{AllInside}
 use Rattle.params.specs.Limits.{alignLimit}
 use Rattle.params.specs.Steps.{SettingsPassed}
 use Rattle.glyph_tests.specs.Limits.{boxLimitsOf}
-use Rattle.boxes.specs.Steps as Boxes
+use Rattle.box_lists.specs.Steps as Boxes
 use Rattle.boxes.proofs.Accepted.{ready}
-use Rattle.box_sets.specs.Steps.{PassedBoxes}
+use Rattle.box_widths.specs.Steps.{PassedBoxes}
 use Rattle.grids.specs.Call as GridsCall
 use Rattle.grids.specs.Steps as Grids
 use Rattle.page.specs.Page as Page

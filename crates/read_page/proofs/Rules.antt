@@ -8,7 +8,7 @@ use lib.ListN.{length, take, drop}
 use lib.Seq.{take-append-seam}
 use Rattle.lists.specs.Lists.{concat, written}
 use Rattle.lists.proofs.Written.{written-length}
-use Rattle.sets.specs.Listing.{endsFrom, ReadAs}
+use Rattle.sets.specs.Listing.{endsFrom}
 use Rattle.rects.specs.Rects.{count}
 use Rattle.levelling.specs.Steps as Levelling
 use Rattle.layout.proofs.Levelling.{levelled-is}
@@ -17,7 +17,7 @@ use Rattle.segments.specs.Steps as Segments
 use Rattle.printed_rulings.specs.Steps.{SplitByContrast, RoomForPlaces}
 use Rattle.meeting.specs.Steps as Meeting
 use Rattle.tables.specs.Steps as Tables
-use Rattle.stages.specs.Steps.{PartsLong}
+use Rattle.table_stages.specs.Steps.{PartsLong}
 use Rattle.page.specs.Page as Page
 use Rattle.page.specs.Page.{Page}
 use Rattle.page.specs.Lent.{RuleLists}

@@ -1,7 +1,7 @@
 -- What reading a page asks and leaves: rulings and tables, boxes and grids.
 use mathlib.Core.Path.{_≡_}
 use mathlib.Core.List.{map}
-use Prim.Native.Nat.{ℕ, _≤_}
+use Prim.Native.Nat.{_≤_}
 use lib.ListN.{length}
 use Rattle.sets.specs.Listing.{ReadAs}
 use Rattle.questions.specs.Questions.{firstMissed}

@@ -173,8 +173,8 @@ pub fn read(
           keys = listAt 0 (now («box_keys» .exit));
         }) n ⌝ }
 {
-    stages::levelled::level_in(sides, gray, shear, shear_x, levelled);
-    let count = stages::rulings::rulings_in(
+    ruling_stages::levelled::level_in(sides, gray, shear, shear_x, levelled);
+    let count = ruling_stages::rulings::rulings_in(
         sides,
         xheight,
         p,
@@ -191,8 +191,8 @@ pub fn read(
         order,
         keys,
     );
-    let parted = stages::rulings::split_in(p, count, values, chosen, rest);
-    let ruled = stages::ruled_tables::tables_in(
+    let parted = ruling_stages::rulings::split_in(p, count, values, chosen, rest);
+    let ruled = table_stages::tables_in(
         xheight,
         p,
         count,
@@ -213,18 +213,8 @@ pub fn read(
         order,
         keys,
     );
-    let boxes = stages::marked_boxes::boxes_in(
-        sides,
-        dpi,
-        xheight,
-        p,
-        ink,
-        glyphs,
-        rects,
-        tags,
-        values,
-    );
-    let boxed = stages::marked_boxes::grids_in(
+    let boxes = box_stages::boxes_in(sides, dpi, xheight, p, ink, glyphs, rects, tags, values);
+    let boxed = box_stages::grids_in(
         xheight,
         p,
         boxes,

@@ -9,7 +9,7 @@ ghost use Rattle.order.specs.Order.{sortedIndexes};
 ghost use Rattle.rects.specs.Rects.{count};
 ghost use Rattle.sets.specs.Listing.{membersOf};
 ghost use Rattle.reading_order.specs.Reading.{readingKeys, readingOrder};
-ghost use Rattle.box_sets.specs.Steps.{PassedBoxes};
+ghost use Rattle.box_widths.specs.Steps.{PassedBoxes};
 ghost use Rattle.reading_order.specs.Steps.{Indexes, SetsIn, WorkRoom};
 
 // The keys of a set's boxes: y0, then x0.
@@ -30,7 +30,7 @@ fn sort_keys(keys: &[u64], n: usize, order: &mut [u32], work: &mut [u32])
     requires { ⌜ (n < 2 ^ 32) × WorkRoom n (length (now order)) (length (now work)) (length (now keys)) ⌝ }
     ensures { λ _. ⌜ now (order .exit) ≡ written (sortedIndexes (take n (now (keys .entry)))) (now (order .entry)) ⌝ }
 {
-    order::sort(&keys[0..n], order, work);
+    sort::sort(&keys[0..n], order, work);
 }
 
 // Writes the members of a set in the order of the given places, from place `at` on.
@@ -87,7 +87,7 @@ pub fn read_sets(
     let mut at = 0;
     let mut k = 0;
     while k < count {
-        let set = sets::members_of(members, ends, count, k);
+        let set = listings::members_of(members, ends, count, k);
         read_set(rects, set, reading, at, order, work, keys);
         at += set.len();
         k += 1;

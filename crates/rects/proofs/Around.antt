@@ -1,7 +1,7 @@
 -- Why `around` is the smallest rectangle: a union holds both its parts and lies inside whatever does.
 use mathlib.Core.Path.{_≡_, refl, sym, ap, _∙_, subst}
 use mathlib.Core.Logic.{inl, inr}
-use mathlib.Core.List.{List, [], _∷_, List·Memᴰ·cases-cons, List·Memᴰ·not-nil, List·Memᴰ, List·Memᴰ·head, List·Memᴰ·tail}
+use mathlib.Core.List.{List, [], _∷_, List·Memᴰ·cases-cons, List·Memᴰ·not-nil, List·Memᴰ·head, List·Memᴰ·tail}
 use Prim.Native.Nat.{ℕ, _+_, _-_, _≤_, _<_}
 use native.Mathlib.Nat.{le-refl, le-trans, min-le-left, min-le-right, le-max-left, le-max-right, le-min, max-le, not-suc-le-zero}
 use native.Mathlib.Numerals.{add-one}

@@ -1,5 +1,5 @@
 -- What the functions of `rects` ask and leave; none of it is needed to read the contracts.
-use Prim.Native.Nat.{ℕ, _+_, _-_, _*_, _≤_, _<_}
+use Prim.Native.Nat.{ℕ, _+_, _*_, _≤_, _<_}
 use mathlib.Core.List.{List}
 use lib.ListN.{length}
 use Rattle.lists.specs.Lists.{In}

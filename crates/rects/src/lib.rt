@@ -1,10 +1,10 @@
 // Rectangles by value and as number lists, and what questions 5 and 6 ask of such lists.
 ghost use mathlib.Core.Path.{_≡_};
-ghost use Prim.Native.Nat.{ℕ, _+_, _*_, _^_, _<_, _≤_};
-ghost use lib.ListN.{length, getD};
+ghost use Prim.Native.Nat.{_+_, _*_, _^_, _<_, _≤_};
+ghost use lib.ListN.{length};
 ghost use lib.Seq.{sets};
 ghost use Rattle.rects.specs.Rects.{widthOf, heightOf, rectAt, numbersOf, inside, countFits, allInside};
-ghost use Rattle.rects.specs.Around.{unionOf, unioned, around};
+ghost use Rattle.rects.specs.Around.{unionOf, around};
 ghost use Rattle.rects.specs.Steps.{Places};
 
 // Both ends are inside.

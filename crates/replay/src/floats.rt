@@ -11,7 +11,7 @@ pub fn pairwise_sum(text: &[u8], at: usize) -> Word {
     let read = read_floats(text, words::read_word(text, at), &mut values);
     let n = read.count;
     Word {
-        value: bits_of(math::sum::pairwise_sum(&values[..n])),
+        value: bits_of(sums::sum::pairwise_sum(&values[..n])),
         next: read.next,
     }
 }
@@ -19,7 +19,7 @@ pub fn pairwise_sum(text: &[u8], at: usize) -> Word {
 pub fn round_output(text: &[u8], at: usize) -> Word {
     let x = words::read_word(text, at);
     Word {
-        value: bits_of(math::rounding::round_output(float_of(x.value))),
+        value: bits_of(rounding::round_output(float_of(x.value))),
         next: x.next,
     }
 }
@@ -28,7 +28,7 @@ pub fn rounded_product(text: &[u8], at: usize) -> Word {
     let a = words::read_word(text, at);
     let b = words::read_word(text, a.next);
     Word {
-        value: bits_of_whole(math::rounding::rounded_product(float_of(a.value), float_of(b.value))),
+        value: bits_of_whole(rounding::rounded_product(float_of(a.value), float_of(b.value))),
         next: b.next,
     }
 }
@@ -36,7 +36,7 @@ pub fn rounded_product(text: &[u8], at: usize) -> Word {
 pub fn round(text: &[u8], at: usize) -> Word {
     let x = words::read_word(text, at);
     Word {
-        value: bits_of(math::rounding::round(float_of(x.value))),
+        value: bits_of(rounding::round(float_of(x.value))),
         next: x.next,
     }
 }

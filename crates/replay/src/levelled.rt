@@ -71,7 +71,7 @@ fn level_gray(
     out: &mut [u8],
 ) {
     let n = words::at_most(room as u64, out.len());
-    let number = levelling::calls::level_gray(sides, gray, shear, shear_x, &mut out[..n]);
+    let number = level_gray::level_gray(sides, gray, shear, shear_x, &mut out[..n]);
     written::word(number as u64);
     written::bytes(out, n);
 }

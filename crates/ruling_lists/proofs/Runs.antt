@@ -6,7 +6,7 @@ use native.Mathlib.Nat.{le-refl}
 use native.Mathlib.Decide.{le-ind}
 use native.Mathlib.Numerals.{add-one}
 use native.Mathlib.Omega.{arith}
-use lib.ListN.{length, getD, set, take, drop, length-append}
+use lib.ListN.{length, set, take, drop, length-append}
 use lib.Seq.{sets, sets-eq, paste, take-length}
 use Rattle.lists.specs.Lists.{below, concat, written}
 use Rattle.lists.proofs.Keep.{length-values, values-more}

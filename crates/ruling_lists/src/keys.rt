@@ -25,7 +25,7 @@ pub fn set_keys(pieces: &[u32], members: &[u32], ends: &[u32], count: usize, key
 {
     let mut k = 0;
     while k < count {
-        let set = sets::members_of(members, ends, count, k);
+        let set = listings::members_of(members, ends, count, k);
         keys[k] = key_of(rects::bounding(pieces, set));
         k += 1;
     }
@@ -36,5 +36,5 @@ pub fn sort_sets(keys: &[u64], count: usize, order: &mut [u32], work: &mut [u32]
     requires { ⌜ (count < 2 ^ 32) × (count ≤ length (now keys)) × (count ≤ length (now order)) × (count ≤ length (now work)) ⌝ }
     ensures { λ _. ⌜ now (order .exit) ≡ written (sortedIndexes (take count (now (keys .entry)))) (now (order .entry)) ⌝ }
 {
-    order::sort(&keys[0..count], order, work);
+    sort::sort(&keys[0..count], order, work);
 }

@@ -27,7 +27,7 @@ pub fn list_sets(
         (now (listed .entry)) (now («listed_ends» .entry)) (now (listed .exit)) (now («listed_ends» .exit)) r ⌝ }
 {
     pieces::touch::join_all(pieces, across, gap, parents, listed, work, keys);
-    sets::list(parents, pieces.len() / 4, listed, listed_ends, work)
+    listings::list(parents, pieces.len() / 4, listed, listed_ends, work)
 }
 
 // The numbers of the listed sets in the order of their rectangles.

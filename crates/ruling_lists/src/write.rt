@@ -1,8 +1,6 @@
 // What is written: the sets in the order of their rulings, and each ruling.
-ghost use mathlib.Core.Path.{_≡_};
-ghost use Prim.Native.Nat.{_+_, _*_, _≤_};
+ghost use Prim.Native.Nat.{_+_, _≤_};
 ghost use lib.ListN.{length};
-ghost use lib.Seq.{sets};
 ghost use Rattle.ruling_lists.specs.Steps.{Parts, partsOf, inOrder, Strung, RoomForSets, Described, RoomForRulings, Picture};
 use rects::Rect;
 
@@ -23,7 +21,7 @@ pub fn write_sets(
     let mut at = 0;
     let mut place = 0;
     while place < count {
-        let set = sets::members_of(listed, listed_ends, count, order[place] as usize);
+        let set = listings::members_of(listed, listed_ends, count, order[place] as usize);
         at = lists::append(set, members, at);
         ends[place] = at as u32;
         place += 1;
@@ -51,7 +49,7 @@ pub fn write_rulings(
 {
     let mut k = 0;
     while k < count {
-        let set = sets::members_of(members, ends, count, k);
+        let set = listings::members_of(members, ends, count, k);
         let r = crate::ruling::ruling_of(raster, w, h, pieces, set);
         rects::put_rect(rects, k, r.rect);
         directions[k] = r.direction();

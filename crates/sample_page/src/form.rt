@@ -18,7 +18,7 @@ fn read(gray: &[u8; 360]) {
     let shear = [1, 1, 1, 1, 1, 1, 1, 1, 1, 1, 1, 1, 0, 0, 0, 0, 0, 0, 0, 0];
     let shear_x = [0i32; 19];
     let mut ink = [0u8; 380];
-    levelling::calls::level_gray(sides(), gray, &shear, &shear_x, &mut ink);
+    level_gray::level_gray(sides(), gray, &shear, &shear_x, &mut ink);
     mark_ink(&mut ink);
     let pieces = [
         0,

@@ -36,7 +36,7 @@ fn counted(n: u64, what: &[u8]) {
 
 // Behind its name, a float in hundredths; none is below 0 here.
 fn float(what: &[u8], x: f64) {
-    let n = bits_of_whole(math::rounding::rounded_product(x, 100.0));
+    let n = bits_of_whole(rounding::rounded_product(x, 100.0));
     text(what);
     number(n / 100);
     text(b".");

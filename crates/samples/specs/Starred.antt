@@ -7,7 +7,6 @@ use lib.IntN.{ℤ, pos}
 use lib.Ieee as Ieee
 use lib.Ieee.{eq}
 use Rattle.math.specs.Constants.{fraction}
-use lib.ListN.{getD}
 use Rattle.sets.specs.Listing as Listing
 use Rattle.order.specs.Order as Order
 use Rattle.rects.specs.declared.Rect.{Rect}
@@ -26,6 +25,7 @@ use Rattle.shapes.specs.Shapes.{linesOf, isTable}
 use Rattle.meeting.specs.Meeting.{joinedEnds, shareOf}
 use Rattle.table_lists.specs.Answers.{tableNumbers, freeNumbers}
 use Rattle.tables.specs.Call as Tables
+use Rattle.box_widths.specs.Widths as Widths
 use Rattle.box_sets.specs.Boxes as Boxes
 use Rattle.grids.specs.Grids as Grids
 
@@ -135,7 +135,7 @@ whole = record { computed = numbers (rectToPage twoByOne shear shear-x (rect 0 0
 
 -- "Widths 7 and 10 are similar; 6 and 10 aren't."
 abbrev pub similarWidths : Row
-similarWidths = record { computed = answer (Boxes.similar 7 10) ∷ answer (Boxes.similar 6 10) ∷ []; said = 1 ∷ 0 ∷ [] }
+similarWidths = record { computed = answer (Widths.similar 7 10) ∷ answer (Widths.similar 6 10) ∷ []; said = 1 ∷ 0 ∷ [] }
 
 -- "No boxes, no grids.", whatever the limit and the grid minimum.
 abbrev pub noBoxes : ℕ → ℕ → Row
@@ -149,6 +149,6 @@ starred a b limit least =
 -- In every row the definition computes what document 01 says.
 pub starred-hold : (a b limit least : ℕ) → map (λ row. row .computed) (starred a b limit least) ≡ map (λ row. row .said) (starred a b limit least)
 unfolding rasterRow raster columnShows placeShows touching horizontal centre2 start end joinsEnd Order.sortedBy Order.place Lines.lineAt Lines.linesTo
-    Listing.grown Listing.closedSet Listing.closedSets segmentOf touches linesOf isTable tableNumbers freeNumbers joinedEnds shareOf Boxes.similar Grids.gridNumbers
+    Listing.grown Listing.closedSet Listing.closedSets segmentOf touches linesOf isTable tableNumbers freeNumbers joinedEnds shareOf Widths.similar Grids.gridNumbers
     Ieee.ofInt Ieee.div Ieee.sub Ieee.mul Ieee.round Ieee.ofBits Ieee.isNan Ieee.lt Ieee.le Ieee.eq
 starred-hold a b limit least = refl

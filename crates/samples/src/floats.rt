@@ -13,7 +13,7 @@ fn nine_values() {
     let nine = [9007199254740992.0, 1.0, 1.0, 1.0, 1.0, 1.0, 1.0, 1.0, 1.0];
     show(
         b"nine values sum as four and five",
-        math::sum::pairwise_sum(&nine) == 9007199254740996.0,
+        sums::sum::pairwise_sum(&nine) == 9007199254740996.0,
     );
 }
 
@@ -21,13 +21,13 @@ fn nine_values() {
 fn a_little_less_than_half() {
     show(
         b"0.49999999999999994 rounds to 0",
-        math::rounding::round(0.49999999999999994) == 0.0,
+        rounding::round(0.49999999999999994) == 0.0,
     );
 }
 
 fn halves() {
     show(
         b"2.5 rounds to 3, -2.5 to -3",
-        (math::rounding::round(2.5) == 3.0) & (math::rounding::round(-2.5) == -3.0),
+        (rounding::round(2.5) == 3.0) & (rounding::round(-2.5) == -3.0),
     );
 }

@@ -1,18 +1,17 @@
 -- The steps of the core, over plain lists: what each call leaves is what the next one asks.
-use mathlib.Core.Path.{_≡_, refl, sym, ap, subst, _∙_}
-use mathlib.Core.List.{List, [], map}
-use Prim.Native.Nat.{ℕ, _*_, _^_, _≤_, _<_}
+use mathlib.Core.Path.{_≡_, sym, ap, subst, _∙_}
+use mathlib.Core.List.{List}
+use Prim.Native.Nat.{ℕ, _^_, _≤_, _<_}
 use native.Mathlib.Omega.{arith}
 use lib.Ieee.{Float}
-use lib.ListN.{length, getD}
-use Rattle.lists.specs.Lists.{In, concat, written}
+use lib.ListN.{length}
+use Rattle.lists.specs.Lists.{concat, written}
 use Rattle.order.specs.Order.{keyAt, sortedIndexes}
 use Rattle.order.proofs.Computed.{sorted-length}
 use Rattle.rects.specs.Rects.{count}
 use Rattle.sets.specs.Closed.{Below, Listed}
-use Rattle.sets.specs.Listing.{membersOf, endsFrom, ReadAs}
+use Rattle.sets.specs.Listing.{endsFrom, ReadAs}
 use Rattle.sets.proofs.Listings.{read-as}
-use Rattle.pieces.specs.Pieces.{Touch}
 use Rattle.ruling_lists.specs.Rulings.{pieceSets, rulingKeys, orderedSets}
 use Rattle.ruling_lists.specs.Steps.{Parts, partsOf, inOrder, Strung, RoomForSets, Described, RoomForRulings, SetsListed, SetsOrdered}
 use Rattle.segments.specs.Steps.{Made}

@@ -1,13 +1,13 @@
 -- The order of the rulings: the key orders as its four numbers do, and the sets stand by key, then by smallest piece index.
-use mathlib.Core.Path.{_≡_, refl, sym, ap, _∙_, subst}
+use mathlib.Core.Path.{_≡_, refl, ap, _∙_}
 use mathlib.Core.Bool.{Bool, true, false, cond}
 use mathlib.Core.Logic.{_⊎_, inl, inr}
 use mathlib.Core.List.{List, [], _∷_, _++_, map}
-use Prim.Native.Nat.{ℕ, zero, suc, _+_, _*_, _≤_, _<_}
+use Prim.Native.Nat.{ℕ, zero, suc, _+_, _<_}
 use native.Mathlib.Decide.{decLt}
 use native.Mathlib.Omega.{arith}
 use lib.Dec.{ltb}
-use lib.ListN.{length, getD, length-append, length-map}
+use lib.ListN.{length, length-append}
 use Rattle.lists.specs.Lists.{below, concat}
 use Rattle.lists.proofs.Keep.{map-append}
 use Rattle.order.specs.Order.{place, sortedBy}

@@ -1,8 +1,8 @@
 -- The closed sets over a domain that a test decides: of the rule inside the domain they are the closed sets whose first index passes, since a chain
 -- never leaves the domain.
-use mathlib.Core.Path.{_≡_, refl}
+use mathlib.Core.Path.{_≡_}
 use mathlib.Core.Bool.{Bool, true, _&&_}
-use mathlib.Core.Logic.{inl, inr, ⊎-elim, ⊎-map}
+use mathlib.Core.Logic.{inl, ⊎-elim, ⊎-map}
 use mathlib.Core.List.{List}
 use Prim.Native.Nat.{ℕ, _<_}
 use lib.ListN.{getD}

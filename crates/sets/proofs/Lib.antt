@@ -12,7 +12,6 @@ pub mod Where
 pub mod NotListed
 pub mod Domain
 pub mod Reordered
-pub mod Trails
 pub mod Sizes
 pub mod Labels
 pub mod Listings

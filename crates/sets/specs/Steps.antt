@@ -1,9 +1,9 @@
 -- What the functions of `sets` ask and leave; none of it is needed to read the contracts.
 use mathlib.Core.Path.{_≡_}
-use mathlib.Core.Bool.{Bool, cond, false, _&&_}
+use mathlib.Core.Bool.{Bool, cond, _&&_}
 use mathlib.Core.Logic.{_⊎_}
 use mathlib.Core.List.{List, [], _∷_, map}
-use Prim.Native.Nat.{ℕ, _≤_, _<_, zero, suc, _^_, min, max, _+_, _-_}
+use Prim.Native.Nat.{ℕ, _≤_, _<_, zero, suc, _^_, min, max, _+_}
 use lib.ListN.{length, getD, drop}
 use Rattle.lists.specs.Lists.{below, keep, concat, written}
 use Rattle.sets.specs.Closed.{Touching, Chain}

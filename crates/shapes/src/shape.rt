@@ -5,7 +5,7 @@ ghost use Prim.Native.Nat.{_≤_};
 ghost use lib.Dec.{leb};
 ghost use lib.ListN.{length};
 ghost use Rattle.meeting.specs.Segments.{rulingAt};
-ghost use Rattle.shapes.specs.Shapes.{inDirection, positions};
+ghost use Rattle.shapes.specs.Shapes.{inDirection};
 ghost use Rattle.meeting.specs.Steps.{Given, IndexesBelow};
 ghost use Rattle.shapes.specs.Steps.{Collected, LinesCounted, Shaped};
 use crate::limits::Limits;

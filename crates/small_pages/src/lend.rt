@@ -1,5 +1,4 @@
 // The lists of a page, lent to `detect` in its bundles.
-use crate::bundles;
 use crate::counts;
 use crate::given::Given;
 

@@ -18,7 +18,7 @@ pub fn arrange(keys: &[u64], n: usize, order: &mut [u32], work: &mut [u32])
     ensures { λ _.
         ⌜ InOrder n (now (keys .entry)) (now (order .exit)) × (drop n (now (order .exit)) ≡ drop n (now (order .entry))) ⌝ }
 {
-    order::sort(&keys[0..n], order, work);
+    sort::sort(&keys[0..n], order, work);
 }
 
 // The first place whose key is at least the bound; n where there is none.

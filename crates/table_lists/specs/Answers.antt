@@ -1,10 +1,9 @@
 -- What `tables` finds in a listing of the closed sets, which gives the set of each number below a count.
 use mathlib.Core.Bool.{not}
-use mathlib.Core.List.{List, [], _∷_, map}
+use mathlib.Core.List.{List, map}
 use Prim.Native.Nat.{ℕ}
 use lib.ListN.{getD}
 use Rattle.lists.specs.Lists.{below, keep, concat}
-use Rattle.rects.specs.declared.Rect.{Rect}
 use Rattle.rects.specs.Rects.{numbersOf}
 use Rattle.rects.specs.Around.{around}
 use Rattle.meeting.specs.declared.segment.Segment.{Segment}

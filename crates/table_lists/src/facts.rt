@@ -2,7 +2,6 @@
 ghost use mathlib.Core.Path.{_≡_};
 ghost use Prim.Native.Nat.{_+_, _*_, _<_, _≤_, _^_};
 ghost use lib.ListN.{length, take};
-ghost use lib.Seq.{sets};
 ghost use Rattle.rects.specs.Around.{around};
 ghost use Rattle.sets.specs.Listing.{membersOf};
 ghost use Rattle.meeting.specs.Segments.{rulingAt};
@@ -48,7 +47,7 @@ pub fn choose(
     let mut at = 0;
     let mut k = 0;
     while k < count {
-        let set = sets::members_of(members, ends, count, k);
+        let set = listings::members_of(members, ends, count, k);
         let found = shape::shape_of(rects, directions, chosen, set, limits, keys, order, work);
         if found.table {
             numbers[tables] = k as u32;
@@ -99,7 +98,7 @@ pub fn bound(
 {
     let mut t = 0;
     while t < tables {
-        let set = sets::members_of(members, ends, count, numbers[t] as usize);
+        let set = listings::members_of(members, ends, count, numbers[t] as usize);
         rects::put_rect(out, t, around_set(rects, directions, chosen, set));
         t += 1;
     }
@@ -132,7 +131,7 @@ pub fn measure(
 {
     let mut t = 0;
     while t < tables {
-        let set = sets::members_of(members, ends, count, numbers[t] as usize);
+        let set = listings::members_of(members, ends, count, numbers[t] as usize);
         rulings[t] = set.len() as u32;
         shares[t] = ends::share(rects, directions, chosen, set, join, order, work, keys);
         t += 1;

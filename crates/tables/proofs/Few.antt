@@ -2,11 +2,11 @@
 use mathlib.Core.Path.{_≡_, refl, sym, ap, _∙_}
 use mathlib.Core.Bool.{Bool, true, false, not}
 use mathlib.Core.List.{List, [], _∷_, map}
-use Prim.Native.Nat.{ℕ, suc, _+_, _≤_, _<_}
+use Prim.Native.Nat.{ℕ, _+_, _≤_, _<_}
 use native.Mathlib.Nat.{not-suc-le-zero}
 use native.Mathlib.Omega.{arith}
 use lib.ListN.{length}
-use Rattle.lists.specs.Lists.{one, below, keep, concat}
+use Rattle.lists.specs.Lists.{one, below, concat}
 use Rattle.lists.proofs.Keep.{length-below}
 use Rattle.lists.proofs.Sizes.{keep-size-split, keep-all}
 use Rattle.sets.proofs.Sizes.{sets-few}

@@ -1,5 +1,4 @@
 // Tables and free rulings among the chosen ones: the core, which asks for what the questions show.
-ghost use mathlib.Core.Path.{_≡_};
 ghost use Prim.Native.Nat.{_*_, _<_, _≤_, _^_};
 ghost use lib.ListN.{length, take};
 ghost use Rattle.sets.specs.Listing.{membersOf};

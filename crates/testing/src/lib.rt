@@ -46,5 +46,5 @@ pub extern "C" fn testing_pair_sets(
 pub extern "C" fn testing_sort_indexes(keys: &[u64], out: &mut [u32], work: &mut [u32]) -> bool
     ensures { λ r. ⌜ Sorts (now (keys .entry)) (now (out .entry)) (now (work .entry)) (now (out .exit)) (now (work .exit)) r ⌝ }
 {
-    order::sort_indexes(keys, out, work)
+    sort::sort_indexes(keys, out, work)
 }

@@ -1,6 +1,6 @@
 -- `boxes::boxes` meets its contract: the guard gives the number, and the core the lists where it is 0.
 use borrow.Author.Needs.{needs}
-use mathlib.Core.Path.{_≡_, sym, _∙_}
+use mathlib.Core.Path.{sym, _∙_}
 use native.Mathlib.Omega.{arith}
 use Rattle.boxes.specs.Call.{Given, Lent}
 use Rattle.boxes.proofs.Accepted.{accepted-ready}

@@ -5,7 +5,7 @@ use native.Mathlib.Nat.{le-of-eq}
 use lib.Dec.{lit≤}
 use lib.ListN.{getD-replicate}
 use borrow.Author.Needs.{needs}
-use Rattle.contrast.specs.Pixels.{samples}
+use Rattle.paper.specs.Pixels.{samples}
 use Rattle.contrast.proofs.Mean.{contrasted}
 use Rattle.contrast.proofs.contrast.Statement.{statement}
 use Rattle.contrast.proofs.contrast.Tie as tie

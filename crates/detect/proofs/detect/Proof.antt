@@ -1,6 +1,6 @@
 -- `detect` meets its contract: the questions decide, and then the page is read.
 use mathlib.Core.Path.{_≡_, refl, sym, _∙_}
-use mathlib.Core.Bool.{true, _&&_}
+use mathlib.Core.Bool.{_&&_}
 use mathlib.Core.List.{map}
 use Prim.Native.Nat.{_+_}
 use native.Mathlib.Omega.{arith}

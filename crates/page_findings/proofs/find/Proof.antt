@@ -8,7 +8,7 @@ use Rattle.finding_lists.specs.Columns.{Columns}
 use Rattle.page.specs.Lent.{listAt}
 use Rattle.page_findings.specs.Steps.{Sources, Work}
 use Rattle.page_findings.proofs.Steps.{ask-free, ask-folds, told-folds, place-front, fold-front, places-fit, folds-fit, ask-first, told-first, sum-few, ask-rank, told-rank, ask-grids, told-grids}
-use Rattle.page_findings.proofs.Writing.{ask-tables, told-tables, ask-loose, told-loose, ask-fold, told-fold, ask-grid, told-grid}
+use Rattle.page_findings.proofs.Writing.{ask-tables, told-tables, ask-loose, told-loose, ask-fold, told-fold, ask-grid}
 use Rattle.page_findings.proofs.Composed.{whole}
 use Rattle.page_findings.proofs.Kept.{and-then}
 use Rattle.page_findings.proofs.find.Statement.{statement}

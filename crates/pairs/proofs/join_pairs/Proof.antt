@@ -6,13 +6,13 @@ use Prim.Native.Nat.{ℕ, _+_, _-_, _*_, _/_, _≤_, _<_, zero-le}
 use native.Mathlib.Omega.{arith}
 use native.Mathlib.Nat.{le-antisymm}
 use native.Mathlib.Numerals.{add-one-le}
-use lib.ListN.{length, getD}
+use lib.ListN.{length}
 use borrow.Author.Needs.{scaled-fits}
 use Rattle.lists.specs.Lists.{below, written}
 use Rattle.sets.specs.Closed.{Below}
 use Rattle.sets.specs.Steps.{Joins, Room}
 use Rattle.sets.proofs.Joins.{joins-none}
-use Rattle.pairs.specs.Pairs.{Paired, IndexesBelow}
+use Rattle.pairs.specs.Pairs.{Paired}
 use Rattle.pairs.proofs.Rule.{pair-joined}
 use Rattle.pairs.proofs.join_pairs.Statement.{statement}
 use Rattle.pairs.proofs.join_pairs.Tie as tie

@@ -1,12 +1,11 @@
 -- `rects::bounding` meets its contract. The invariant: r, with the rectangles at the places that are left, makes the whole.
-use mathlib.Core.Path.{_≡_, refl, sym, ap, ap₂, _∙_}
-use Prim.Native.Nat.{ℕ, _+_, _-_, _*_, _≤_, _<_}
+use mathlib.Core.Path.{_≡_, sym, ap, _∙_}
+use Prim.Native.Nat.{_+_, _-_, _≤_}
 use native.Mathlib.Omega.{arith}
 use lib.ListN.{length, getD, drop}
 use borrow.Author.Needs.{scaled-fits}
 use Rattle.lists.proofs.Keep.{at-in}
 use Rattle.rects.specs.declared.Rect.{Rect}
-use Rattle.rects.specs.Rects.{rectAt}
 use Rattle.rects.specs.Around.{unionOf, unioned, around}
 use Rattle.rects.proofs.Around.{around-first, unioned-step, unioned-all}
 use Rattle.rects.proofs.bounding.Statement.{statement}

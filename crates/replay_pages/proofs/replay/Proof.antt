@@ -1,6 +1,5 @@
 -- `replay_pages::replay` ends: the turns are counted down.
 use native.Mathlib.Omega.{arith}
-use mathlib.Core.Logic.{⊎-elim}
 use borrow.Author.Needs.{needs}
 use Rattle.replay_pages.proofs.replay.Statement.{statement}
 use Rattle.replay_pages.proofs.replay.Tie as tie

@@ -1,5 +1,5 @@
 -- `tables` meets its contract: the guard decides, then all rulings are chosen and the core finds what there is.
-use mathlib.Core.Path.{_≡_, sym, _∙_}
+use mathlib.Core.Path.{_≡_, sym}
 use Prim.Native.Nat.{ℕ, _≤_}
 use native.Mathlib.Omega.{arith}
 use lib.Seq.{length-take-le}

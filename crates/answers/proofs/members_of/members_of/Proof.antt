@@ -1,12 +1,10 @@
 -- `members_of` meets its contract: an empty part is given as none, and any other starts where the set before it ends.
-use mathlib.Core.Path.{_≡_, sym, ap, _∙_}
-use mathlib.Core.List.{List}
+use mathlib.Core.Path.{sym, ap, _∙_}
 use Prim.Native.Nat.{ℕ, _-_, _<_}
 use native.Mathlib.Omega.{arith}
 use lib.ListN.{length}
 use borrow.Author.Needs.{needs, scaled-fits}
-use Rattle.answers.proofs.Part.{Full, full-part, empty-bounds, full-bounds, start-past, start-first}
-use Rattle.sets.specs.Listing.{membersOf}
+use Rattle.answers.proofs.Part.{full-part, empty-bounds, full-bounds, start-past, start-first}
 use Rattle.answers.proofs.members_of.members_of.Statement.{statement}
 use Rattle.answers.proofs.members_of.members_of.Tie as tie
 

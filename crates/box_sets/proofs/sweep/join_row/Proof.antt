@@ -10,7 +10,7 @@ use lib.ListN.{length, getD}
 use Rattle.lists.proofs.Every.{and-first, and-second}
 use Rattle.rects.specs.Rects.{count}
 use Rattle.sets.specs.Steps.{root, Joined}
-use Rattle.box_sets.specs.Boxes.{similar}
+use Rattle.box_widths.specs.Widths.{similar}
 use Rattle.box_sets.specs.Steps.{Sweep, widthAt, SweptTo, OneSet, RowDone}
 use Rattle.box_sets.proofs.Rows.{Head, one-set-begins, one-set-next, one-set-more, run-known, pair-tried, row-stops, row-meets-width, row-ends}
 use Rattle.box_sets.proofs.sweep.join_row.Statement.{statement}

@@ -3,7 +3,7 @@ use mathlib.Core.Path.{_∙_}
 use native.Mathlib.Omega.{arith}
 use borrow.Author.Needs.{needs}
 use lib.ListN.{getD-replicate}
-use Rattle.contrast.specs.Pixels.{darkestOf}
+use Rattle.paper.specs.Pixels.{darkestOf}
 use Rattle.contrast.proofs.Lines.{columns-sum}
 use Rattle.contrast.proofs.columns.sum_of_part.Statement.{statement}
 use Rattle.contrast.proofs.columns.sum_of_part.Tie as tie

@@ -4,10 +4,10 @@ use mathlib.Core.Logic.{⊎-elim}
 use Prim.Native.Nat.{_+_, _-_, _≤_, min}
 use native.Mathlib.Omega.{arith}
 use lib.ListN.{getD}
-use Rattle.contrast.specs.Pixels.{darkestOf}
-use Rattle.contrast.specs.Steps.{line}
+use Rattle.paper.specs.Pixels.{darkestOf}
+use Rattle.paper.specs.Steps.{line}
 use Rattle.contrast.proofs.Lines.{darkest-more}
-use Rattle.contrast.proofs.Pixels.{row-more}
+use Rattle.paper.proofs.Pixels.{row-more}
 use Rattle.contrast.proofs.darkest.darkest_of.Statement.{statement}
 use Rattle.contrast.proofs.darkest.darkest_of.Tie as tie
 

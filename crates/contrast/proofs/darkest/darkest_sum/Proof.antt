@@ -4,7 +4,7 @@ use Prim.Native.Nat.{_+_, _*_, _<_, _≤_}
 use native.Mathlib.Omega.{arith}
 use lib.ListN.{length}
 use borrow.Author.Needs.{needs}
-use Rattle.contrast.proofs.Pixels.{row-inside}
+use Rattle.paper.proofs.Pixels.{row-inside}
 use Rattle.contrast.proofs.Lines.{rows-inside, horizontal-sum, vertical-sum}
 use Rattle.contrast.proofs.darkest.darkest_sum.Statement.{statement}
 use Rattle.contrast.proofs.darkest.darkest_sum.Tie as tie

@@ -4,7 +4,8 @@ use Prim.Native.Nat.{_+_, _-_, _*_, _≤_}
 use native.Mathlib.Omega.{arith}
 use lib.ListN.{length}
 use Rattle.math.specs.Sum.{total}
-use Rattle.contrast.specs.Steps.{line, rowsDarkest}
+use Rattle.paper.specs.Steps.{line}
+use Rattle.contrast.specs.Steps.{rowsDarkest}
 use Rattle.contrast.proofs.Lines.{sum-more, darkest-le}
 use Rattle.contrast.proofs.darkest.sum_of_rows.Statement.{statement}
 use Rattle.contrast.proofs.darkest.sum_of_rows.Tie as tie

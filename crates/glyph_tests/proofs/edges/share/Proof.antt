@@ -1,6 +1,6 @@
 -- `edges::share` meets its contract.
 use borrow.Author.Needs.{needs}
-use mathlib.Core.Path.{ap, ap₂}
+use mathlib.Core.Path.{ap₂}
 use Prim.Native.Nat.{ℕ}
 use lib.Ieee.{binary64, div}
 use Rattle.math.specs.Sum.{whole}

@@ -1,6 +1,6 @@
 -- `sizes::aspect_missed` meets its contract.
 use borrow.Author.Needs.{needs}
-use mathlib.Core.Path.{ap, ap₂}
+use mathlib.Core.Path.{ap₂}
 use lib.Ieee.{Float, binary64, lt, mul}
 use Rattle.glyph_tests.specs.Tests.{aspectMissed}
 use Rattle.glyph_tests.proofs.sizes.aspect_missed.Statement.{statement}

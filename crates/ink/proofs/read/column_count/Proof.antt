@@ -1,10 +1,9 @@
 -- `read::column_count` meets its contract: after j turns `n` is the ink of the first j places of the column.
 use mathlib.Core.Path.{_≡_, refl, ap, _∙_}
-use Prim.Native.Nat.{ℕ, suc, _+_, _-_, _*_, _≤_, _<_}
+use Prim.Native.Nat.{ℕ, _+_, _-_, _≤_}
 use mathlib.Core.Bool.{Bool, cond}
 use native.Mathlib.Omega.{arith}
 use borrow.Author.Needs.{needs}
-use lib.ListN.{length}
 use Rattle.rects.specs.Rects.{heightOf}
 use Rattle.ink.specs.Ink.{inkAt, many, columnInk}
 use Rattle.ink.proofs.Counts.{many-le, many-next, one-le, row-in-mask}

@@ -1,9 +1,9 @@
 -- `read::ink_in` meets its contract: after j turns `n` is the ink of the first j rows.
 use mathlib.Core.Path.{_≡_, sym, ap, _∙_}
-use Prim.Native.Nat.{ℕ, _+_, _-_, _*_, _≤_, _<_}
+use Prim.Native.Nat.{_-_, _*_, _≤_}
 use native.Mathlib.Omega.{arith}
 use borrow.Author.Needs.{needs}
-use Rattle.rects.specs.Rects.{widthOf, heightOf}
+use Rattle.rects.specs.Rects.{heightOf}
 use Rattle.ink.specs.Ink.{inkAt, inkInRows}
 use Rattle.ink.proofs.Counts.{rows-none, rows-next, row-le}
 use Rattle.ink.proofs.read.ink_in.Statement.{statement}

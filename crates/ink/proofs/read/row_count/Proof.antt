@@ -1,15 +1,10 @@
 -- `read::row_count` meets its contract: the part of the mask holds the row's places and no others.
-use mathlib.Core.Path.{_≡_, refl, ap, _∙_}
-use mathlib.Core.Bool.{not}
-use Prim.Native.Nat.{ℕ, _+_, _-_, _*_, _≤_, _<_}
+use mathlib.Core.Path.{refl, _∙_}
+use Prim.Native.Nat.{_+_, _-_, _*_, _≤_}
 use native.Mathlib.Omega.{arith}
 use borrow.Author.Needs.{needs}
-use lib.Dec.{eqb}
-use lib.ListN.{length, getD, take, drop}
-use lib.Seq.{length-take-le}
-use Rattle.rects.specs.Rects.{widthOf}
-use Rattle.ink.specs.Ink.{inkAt, many}
-use Rattle.ink.proofs.Counts.{row-in-mask, span-ink, span-long}
+use lib.ListN.{length}
+use Rattle.ink.proofs.Counts.{row-in-mask, span-long}
 use Rattle.ink.proofs.read.row_count.Statement.{statement}
 use Rattle.ink.proofs.read.row_count.Tie as tie
 

@@ -4,9 +4,6 @@ use mathlib.Core.Bool.{_&&_}
 use borrow.Author.Needs.{needs}
 use Rattle.layout.proofs.sides.levelled_sides_fit.Statement.{statement}
 use Rattle.layout.proofs.sides.levelled_sides_fit.Tie as tie
-use Rattle.layout.proofs.sides.levelled_sides_fit.Reads as reads
-use Rattle.layout.proofs.sides.levelled_sides_fit.Lts as lts
-use Rattle.layout.proofs.sides.side_fits.Reads as side-fits-reads
 
 -- src/sides.rt:23:5
 side-fits-requires : tie.Need-side-fits-requires

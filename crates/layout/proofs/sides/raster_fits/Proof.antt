@@ -5,8 +5,6 @@ use Rattle.layout.specs.Sides.{rasterFits}
 use Rattle.layout.proofs.Places.{small-product}
 use Rattle.layout.proofs.sides.raster_fits.Statement.{statement}
 use Rattle.layout.proofs.sides.raster_fits.Tie as tie
-use Rattle.layout.proofs.sides.raster_fits.Reads as reads
-use Rattle.layout.proofs.sides.raster_fits.Lts as lts
 
 -- src/sides.rt:40:10
 mul-result : tie.Need-mul-result

@@ -3,9 +3,6 @@ use Rattle.layout.specs.Sides.{sidesFit}
 use borrow.Author.Needs.{needs}
 use Rattle.layout.proofs.sides.sides_fit.Statement.{statement}
 use Rattle.layout.proofs.sides.sides_fit.Tie as tie
-use Rattle.layout.proofs.sides.sides_fit.Reads as reads
-use Rattle.layout.proofs.sides.sides_fit.Lts as lts
-use Rattle.layout.proofs.sides.levelled_sides_fit.Reads as levelled-sides-fit-reads
 
 -- src/sides.rt:30:9
 levelled-sides-fit-requires : tie.Need-levelled-sides-fit-requires

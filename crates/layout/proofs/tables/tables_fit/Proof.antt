@@ -4,9 +4,6 @@ use mathlib.Core.Bool.{_&&_}
 use borrow.Author.Needs.{needs}
 use Rattle.layout.proofs.tables.tables_fit.Statement.{statement}
 use Rattle.layout.proofs.tables.tables_fit.Tie as tie
-use Rattle.layout.proofs.tables.tables_fit.Reads as reads
-use Rattle.layout.proofs.tables.tables_fit.Lts as lts
-use Rattle.layout.proofs.tables.entries_fit.Reads as entries-fit-reads
 
 -- src/tables.rt:70:35
 sub-entries-fit : tie.Need-sub-entries-fit

@@ -2,7 +2,6 @@
 use Prim.Native.Nat.{ℕ, _*_, _^_, _≤_, _<_}
 use native.Mathlib.Omega.{arith}
 use mathlib.Core.Path.{_≡_}
-use borrow.Author.Needs.{needs}
 use Rattle.params.proofs.Limits.{limit-fits}
 use Rattle.params.proofs.pixels.limit_u32.Statement.{statement}
 use Rattle.params.proofs.pixels.limit_u32.Tie as tie

@@ -1,6 +1,5 @@
 -- `touch::centre2` meets its contract, by the direction.
 use borrow.Author.Needs.{needs}
-use native.Mathlib.Omega.{arith}
 use Rattle.pieces.proofs.touch.centre2.Statement.{statement}
 use Rattle.pieces.proofs.touch.centre2.Tie as tie
 

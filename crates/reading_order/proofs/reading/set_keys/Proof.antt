@@ -11,7 +11,7 @@ use Rattle.rects.specs.declared.Rect.{Rect}
 use Rattle.rects.specs.Rects.{count, rectAt}
 use Rattle.rects.specs.Steps.{Inside}
 use Rattle.rects.proofs.Questions.{has-numbers}
-use Rattle.box_sets.specs.Steps.{PassedBoxes}
+use Rattle.box_widths.specs.Steps.{PassedBoxes}
 use Rattle.reading_order.specs.Reading.{readingKey, readingKeys}
 use Rattle.reading_order.specs.Steps.{Indexes}
 use Rattle.reading_order.proofs.Writing.{mapped-more}

@@ -3,7 +3,7 @@ use mathlib.Core.Path.{_≡_, refl, sym, ap, _∙_}
 use mathlib.Core.List.{List, map}
 use Prim.Native.Nat.{ℕ, _+_, _-_, _≤_, _<_, zero-le}
 use native.Mathlib.Omega.{arith}
-use borrow.Author.Needs.{needs, scaled-fits}
+use borrow.Author.Needs.{scaled-fits}
 use lib.ListN.{length, set, length-set}
 use Rattle.lists.specs.Lists.{In, below, written}
 use Rattle.rects.specs.declared.Rect.{Rect}
@@ -12,8 +12,8 @@ use Rattle.rects.specs.Steps.{AllInside, Places}
 use Rattle.rects.specs.Around.{around}
 use Rattle.rects.proofs.Questions.{Inside}
 use Rattle.sets.specs.Listing.{membersOf}
-use Rattle.ruling_lists.specs.Rulings.{rulingKey, rulingKeys}
-use Rattle.ruling_lists.specs.Steps.{Parts, partsOf}
+use Rattle.ruling_lists.specs.Rulings.{rulingKey}
+use Rattle.ruling_lists.specs.Steps.{Parts}
 use Rattle.ruling_lists.proofs.Runs.{value-written}
 use Rattle.lists.proofs.Keep.{map-map}
 use Rattle.ruling_lists.proofs.Rectangles.{places-known, set-inside}

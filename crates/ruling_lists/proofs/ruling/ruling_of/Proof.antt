@@ -1,10 +1,9 @@
 -- `ruling::ruling_of` meets its contract, field by field.
-use mathlib.Core.Path.{_≡_, refl, sym, ap, ap₂, _∙_}
+use mathlib.Core.Path.{_≡_, ap, _∙_}
 use mathlib.Core.Bool.{Bool}
 use mathlib.Core.List.{List}
 use Prim.Native.Nat.{ℕ, _<_}
 use native.Mathlib.Omega.{arith}
-use borrow.Author.Needs.{needs}
 use lib.Ieee.{Float}
 use lib.ListN.{length, getD}
 use Rattle.lists.specs.Lists.{In}
@@ -13,11 +12,10 @@ use Rattle.rects.specs.declared.Rect.{Rect}
 use Rattle.rects.specs.Rects.{count, rectAt}
 use Rattle.rects.specs.Around.{around}
 use Rattle.rects.proofs.Questions.{has-numbers}
-use Rattle.contrast.specs.Contrast.{contrastOf}
-use Rattle.contrast.specs.Steps.{OnPicture, Contrasted}
-use Rattle.ruling_lists.specs.declared.ruling.Ruling.{Ruling}
+use Rattle.paper.specs.Steps.{OnPicture}
+use Rattle.contrast.specs.Steps.{Contrasted}
 use Rattle.pieces.specs.Pieces.{horizontal}
-use Rattle.ruling_lists.specs.Rulings.{directionOf, rulingOf}
+use Rattle.ruling_lists.specs.Rulings.{directionOf}
 use Rattle.pieces.specs.Steps.{Ordered}
 use Rattle.ruling_lists.specs.Steps.{Picture, RulingMade}
 use Rattle.ruling_lists.proofs.Rectangles.{places-known, set-inside, inside-ordered}

@@ -1,12 +1,11 @@
 -- `sets_of_pieces::order_sets` meets its contract: the keys that were written are those that are sorted.
-use mathlib.Core.Path.{_≡_, sym, ap, _∙_}
-use mathlib.Core.List.{List, map}
+use mathlib.Core.Path.{_≡_, ap, _∙_}
+use mathlib.Core.List.{List}
 use Prim.Native.Nat.{ℕ, _≤_}
 use native.Mathlib.Omega.{arith}
-use borrow.Author.Needs.{needs}
 use lib.ListN.{length, take, drop, length-map}
 use lib.Seq.{take-at}
-use Rattle.lists.specs.Lists.{below, written}
+use Rattle.lists.specs.Lists.{written}
 use Rattle.lists.proofs.Keep.{length-values}
 use Rattle.order.specs.Order.{sortedIndexes}
 use Rattle.rects.specs.Around.{around}

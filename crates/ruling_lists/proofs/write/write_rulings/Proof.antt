@@ -5,7 +5,7 @@ use Prim.Native.Nat.{ℕ, _+_, _-_, _*_, _≤_, _<_, zero-le}
 use native.Mathlib.Nat.{not-suc-le-zero}
 use native.Mathlib.Omega.{arith}
 use borrow.Author.Count.{below-more}
-use borrow.Author.Needs.{needs, scaled-fits}
+use borrow.Author.Needs.{scaled-fits}
 use lib.Ieee.{Float}
 use lib.ListN.{length, set, length-set}
 use lib.Seq.{sets, length-sets}
@@ -16,7 +16,7 @@ use Rattle.rects.specs.Around.{around}
 use Rattle.sets.specs.Listing.{membersOf}
 use Rattle.ruling_lists.specs.declared.ruling.Ruling.{Ruling}
 use Rattle.ruling_lists.specs.Rulings.{directionOf, directionNumber, rulingOf}
-use Rattle.ruling_lists.specs.Steps.{Picture, Parts, partsOf, NearOwn, RulingMade, Described, RoomForRulings}
+use Rattle.ruling_lists.specs.Steps.{Parts, partsOf, NearOwn, RulingMade, Described, RoomForRulings}
 use Rattle.ruling_lists.proofs.Runs.{total-four, value-written, run-written}
 use Rattle.ruling_lists.proofs.write.write_rulings.Statement.{statement}
 use Rattle.ruling_lists.proofs.write.write_rulings.Tie as tie

@@ -1,15 +1,15 @@
 -- `write::write_sets` meets its contract: one set more a turn.
-use mathlib.Core.Path.{_≡_, refl, sym, ap, _∙_}
+use mathlib.Core.Path.{_≡_, refl, ap, _∙_}
 use mathlib.Core.List.{List, map}
 use Prim.Native.Nat.{ℕ, _+_, _-_, _^_, _≤_, _<_, zero-le}
 use native.Mathlib.Omega.{arith}
-use borrow.Author.Needs.{needs, scaled-fits}
-use lib.ListN.{length, getD, set, length-set, length-map}
+use borrow.Author.Needs.{scaled-fits}
+use lib.ListN.{length, getD, set, length-set}
 use lib.Seq.{sets}
 use Rattle.lists.specs.Lists.{below, concat, written}
 use Rattle.lists.proofs.Keep.{length-values}
 use Rattle.sets.specs.Listing.{membersOf, endsFrom}
-use Rattle.ruling_lists.specs.Steps.{inOrder, Strung, RoomForSets}
+use Rattle.ruling_lists.specs.Steps.{inOrder, RoomForSets}
 use Rattle.ruling_lists.proofs.Runs.{total, total-next, total-room, run-written, end-written}
 use Rattle.ruling_lists.proofs.write.write_sets.Statement.{statement}
 use Rattle.ruling_lists.proofs.write.write_sets.Tie as tie

@@ -1,5 +1,4 @@
 -- `guard::answers_fit` meets its contract: sides up to 8,192 have a product that fits.
-use Prim.Native.Nat.{_*_}
 use native.Mathlib.Nat.{mul-le-mul, lt-of-le-of-lt}
 use lib.Dec.{lit<}
 use borrow.Author.Needs.{needs}

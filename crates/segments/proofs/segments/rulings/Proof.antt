@@ -1,12 +1,6 @@
 -- `segments::rulings` meets its contract: the sets are listed, ordered, strung together in that order, and described.
-use mathlib.Core.Path.{_≡_, sym, ap, _∙_}
-use Prim.Native.Nat.{ℕ, _≤_, _<_}
+use mathlib.Core.Path.{_∙_}
 use native.Mathlib.Omega.{arith}
-use borrow.Author.Needs.{needs}
-use lib.ListN.{length}
-use Rattle.rects.specs.Rects.{count}
-use Rattle.ruling_lists.specs.Rulings.{pieceSets}
-use Rattle.ruling_lists.specs.Steps.{SetsListed}
 use Rattle.ruling_lists.proofs.Rectangles.{all-ordered, all-wider}
 use Rattle.segments.proofs.Core.{still, few-sets, small-count, listed-parts, sets-room, sets-strung, strung-parts, rulings-room, made}
 use Rattle.segments.proofs.segments.rulings.Statement.{statement}

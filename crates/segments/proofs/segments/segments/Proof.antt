@@ -1,6 +1,5 @@
 -- `segments::segments` meets its contract: the guard's number, and the core's lists where it is 0.
 use mathlib.Core.Path.{_≡_, sym, _∙_}
-use borrow.Author.Needs.{needs}
 use Rattle.params.proofs.Limits.{limits}
 use Rattle.questions.specs.Questions.{firstMissed}
 use Rattle.segments.specs.Call.{Given, Lent, questions}

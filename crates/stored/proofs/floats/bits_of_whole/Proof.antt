@@ -1,6 +1,6 @@
 -- `stored::floats::bits_of_whole` is safe: for z below 0, -1 - z is the whole number n with z = -1 - n, which fits.
 use mathlib.Core.Path.{_≡_, refl, sym, ap, _∙_, subst}
-use mathlib.Core.Bool.{Bool, true, false, not, cond, true≢false}
+use mathlib.Core.Bool.{Bool, true, false, cond, true≢false}
 use Prim.Native.Nat.{ℕ, suc, _-_, _^_, _≤_, _<_, zero-le}
 use native.Mathlib.Nat.{le-trans, suc-sub-suc, sub-zero, zero-lt-suc}
 use native.Mathlib.Omega.{arith}

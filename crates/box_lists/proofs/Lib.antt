@@ -1,0 +1,3 @@
+-- Laws of the list of boxes.
+pub mod EveryBox
+pub mod Listing

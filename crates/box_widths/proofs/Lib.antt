@@ -1,0 +1,2 @@
+-- Laws of similar widths.
+pub mod SimilarWidths

@@ -1,0 +1,2 @@
+-- Why the finding of the free rules is right.
+pub mod Free

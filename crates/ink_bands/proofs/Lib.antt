@@ -1,0 +1,2 @@
+-- Why bands of columns may be passed over.
+pub mod Banded

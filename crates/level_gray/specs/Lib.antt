@@ -1,0 +1,2 @@
+-- What a reader must believe of `level_gray`.
+pub mod Call

@@ -1,0 +1,2 @@
+-- Why what is read back is what was put.
+pub mod Reading

@@ -1,0 +1,2 @@
+-- Why the casts are right.
+pub mod Cast

@@ -1,0 +1,3 @@
+-- What the functions of sums cite.
+pub mod Halves
+pub mod SumAt
