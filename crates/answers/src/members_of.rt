@@ -1,4 +1,4 @@
-// The members of one set of a listing (crate `sets`).
+// The members of one set of a listing (crate `listings`).
 ghost use Rattle.answers.specs.MembersOf.{PartOf};
 
 // A part of the member list: where it starts, and how many entries it has.

@@ -1,4 +1,4 @@
--- What the functions of `findings` ask and leave; none of it is needed to read what a page's findings are.
+-- What the functions of `findings` and of the four kinds ask and leave; none of it is needed to read what a page's findings are.
 use mathlib.Core.Path.{_≡_}
 use mathlib.Core.Bool.{Bool}
 use mathlib.Core.List.{List, _++_, map}

@@ -1,4 +1,4 @@
--- What the functions of `ink` ask and leave; none of it is needed to read the contracts.
+-- What the functions of `ink` and `ink_lines` ask and leave; none of it is needed to read the contracts.
 use mathlib.Core.Bool.{Bool, cond, true, false}
 use mathlib.Core.List.{List}
 use Prim.Native.Nat.{ℕ, suc, _+_, _*_, _≤_, _<_}

@@ -1,4 +1,4 @@
-// A finding read back from its lists (crate `finding_lists`).
+// A finding read back from its lists (crate `read_findings`).
 ghost use mathlib.Core.Path.{_≡_};
 ghost use Rattle.read_findings.specs.Read.{columns, findingAt};
 ghost use Rattle.answers.specs.FindingAt.{answerOf};

@@ -1,4 +1,4 @@
-// Float steps (crate `math`).
+// Float steps (crates `rounding` and `sums`).
 ghost use mathlib.Core.Path.{_≡_};
 ghost use Rattle.math.specs.Rounding.{roundAway, roundedProduct, roundOutput};
 ghost use Rattle.math.specs.Sum.{pairwiseSum};

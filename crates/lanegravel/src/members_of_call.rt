@@ -1,4 +1,4 @@
-// The members of one set of a listing (crate `sets`).
+// The members of one set of a listing (crate `listings`).
 ghost use Rattle.answers.specs.MembersOf.{PartOf};
 use answers::members_of::MembersOfAnswer;
 

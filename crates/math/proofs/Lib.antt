@@ -1,4 +1,4 @@
--- The laws of float steps that `math` and the crates above it cite.
+-- The laws of float steps that the crates above `math` cite.
 pub mod Value
 pub mod Ulp
 pub mod Bound

@@ -1,4 +1,4 @@
--- What the tests of `math`'s functions say of a float: of its sign, of whether it is finite, and of its place beside a constant.
+-- What the tests of the functions over `math` say of a float: of its sign, of whether it is finite, and of its place beside a constant.
 use mathlib.Core.Path.{_≡_, refl, sym, ap, _∙_, subst}
 use Prim.Native.Nat.{ℕ, zero, suc, _+_, _-_, _*_, _/_, _%_, _≤_, _<_}
 use native.Mathlib.Nat.{le-refl, zero-mul, mul-pos, sub-self}

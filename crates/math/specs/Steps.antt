@@ -1,4 +1,4 @@
--- What the functions of `math` ask and leave; none of it is needed to read the contracts.
+-- What the functions of `sums` ask and leave; none of it is needed to read the contracts.
 use Prim.Native.Nat.{ℕ, _≤_, _<_}
 use mathlib.Core.Path.{_≡_}
 use lib.IntN.{ℤ, pos, natAbs}

@@ -1,4 +1,4 @@
--- What the tests of floatOne float say, in `math`'s terms.
+-- What the tests of a float say, in `math`'s terms.
 use mathlib.Core.Path.{_≡_, refl, ap}
 use Prim.Native.Nat.{ℕ}
 use mathlib.Core.Bool.{Bool, true, false, _&&_, _||_}

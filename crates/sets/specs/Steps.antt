@@ -1,4 +1,4 @@
--- What the functions of `sets` ask and leave; none of it is needed to read the contracts.
+-- What the functions of `sets` and `listings` ask and leave; none of it is needed to read the contracts.
 use mathlib.Core.Path.{_≡_}
 use mathlib.Core.Bool.{Bool, cond, _&&_}
 use mathlib.Core.Logic.{_⊎_}

@@ -1,5 +1,5 @@
 // Calls for the differential runs and the bench, which the product does not have: closed sets of
-// numbers within a gap and of given pairs (crates `gaps` and `pairs`), and the sort (crate `order`).
+// numbers within a gap and of given pairs (crates `gaps` and `pairs`), and the sort (crate `sort`).
 ghost use lib.ListN.{length};
 ghost use Rattle.gaps.specs.Answers.{roomFor};
 ghost use Rattle.gaps.specs.Gaps.{GapSets};
