@@ -157,10 +157,11 @@ uint32_t lanegravel_validate_fusion(struct lanegravel_fusion_params f);
  * pixel (X, Y) goes to row R = Y + shear[X], column X + shear_x[R]. A call returns 0, or the number
  * of the first question that is missed, and then writes nothing:
  *   1  page and levelled sides 1 to 8,192, the page no larger than the picture either way
- *   3  gray page_width * page_height bytes, shear page_width entries, shear_x height entries
+ *   3  the page exactly page_width * page_height bytes, given or lent; shear page_width entries,
+ *      shear_x height entries
  *   4  shear entries 0 to height - page_height, shear_x entries 0 to width - page_width
  *   6  the place or rectangle ordered and inside the picture
- *  14  out exactly width * height bytes */
+ *  14  the levelled raster exactly width * height bytes, lent or given */
 
 /* Puts 1, 3, 4 and 14. Writes the levelled raster, row by row: a place that a page pixel reaches
  * holds that pixel, every other 255. */
@@ -170,6 +171,16 @@ uint32_t lanegravel_level_gray(size_t page_width, size_t page_height, size_t wid
                                const int32_t *shear_x, size_t shear_x_count,
                                uint8_t *out, size_t out_count);
 
+/* Puts 1, 3, 4 and 14. The inverse: writes the page, row by row, each pixel from its levelled place. Of
+ * a raster that lanegravel_level_gray wrote with the same sides and tables, this is the page that it was
+ * given, byte by byte. Levelled again, the page gives this raster if and only if every place that no page
+ * pixel reaches is 255 in it. */
+uint32_t lanegravel_unlevel(size_t page_width, size_t page_height, size_t width, size_t height,
+                            const uint8_t *levelled, size_t levelled_count,
+                            const int32_t *shear, size_t shear_count,
+                            const int32_t *shear_x, size_t shear_x_count,
+                            uint8_t *out, size_t out_count);
+
 /* The number of the first missed question, and a page place: 0, 0 where the number is not 0. */
 struct lanegravel_to_page_answer {
     uint32_t number;
@@ -177,8 +188,9 @@ struct lanegravel_to_page_answer {
     int64_t y;
 };
 
-/* Puts 1, 3, 4 and 6. From levelled place (x, y) to the page; a place in the picture's padding maps
- * outside the page, and reads shear at the nearest page column. */
+/* Puts 1, 3, 4 and 6. From levelled place (x, y) to the page: the place of a page pixel maps to that
+ * pixel; a place in the picture's padding maps outside the page, and reads shear at the nearest page
+ * column. */
 struct lanegravel_to_page_answer
 lanegravel_to_page(size_t page_width, size_t page_height, size_t width, size_t height,
                    const int32_t *shear, size_t shear_count,

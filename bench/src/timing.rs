@@ -7,20 +7,20 @@ use std::time::{Duration, Instant};
 pub type Measurement = (&'static str, fn() -> Times);
 
 pub struct Times {
-    ours: Duration,
-    rust: Duration,
+    first: Duration,
+    second: Duration,
 }
 
 /// Runs both sides in turn, `runs` times each, and keeps the medians.
-pub fn compare(runs: usize, mut ours: impl FnMut(), mut rust: impl FnMut()) -> Times {
+pub fn compare(runs: usize, mut first: impl FnMut(), mut second: impl FnMut()) -> Times {
     let (mut a, mut b) = (Vec::new(), Vec::new());
     for _ in 0..runs {
-        a.push(time(&mut ours));
-        b.push(time(&mut rust));
+        a.push(time(&mut first));
+        b.push(time(&mut second));
     }
     Times {
-        ours: median(a),
-        rust: median(b),
+        first: median(a),
+        second: median(b),
     }
 }
 
@@ -38,7 +38,7 @@ fn median(mut times: Vec<Duration>) -> Duration {
 impl fmt::Display for Times {
     fn fmt(&self, f: &mut fmt::Formatter) -> fmt::Result {
         let ms = |t: Duration| t.as_secs_f64() * 1e3;
-        let (ours, rust) = (ms(self.ours), ms(self.rust));
-        write!(f, "{ours:.3} ms | {rust:.3} ms | {:.2}", ours / rust)
+        let (first, second) = (ms(self.first), ms(self.second));
+        write!(f, "{first:.3} ms | {second:.3} ms | {:.2}", first / second)
     }
 }

@@ -11,7 +11,7 @@ pub struct Page<'a> {
     pub page_height: usize,
     pub width: usize,
     pub height: usize,
-    /// The grey page, row by row. Only `level_gray` reads it.
+    /// The grey page, row by row. Only `level_gray` reads it, so that the way back needs none.
     pub gray: &'a [u8],
     /// How far each page column goes down.
     pub shear: &'a [i32],
@@ -23,6 +23,11 @@ impl Page<'_> {
     /// Writes the levelled picture, width times height bytes.
     pub fn level_gray(&self, out: &mut [u8]) -> Result<(), Question> {
         accepted(level_gray(self, out))
+    }
+
+    /// The inverse: writes the page of a levelled picture, page width times page height bytes.
+    pub fn unlevel(&self, levelled: &[u8], out: &mut [u8]) -> Result<(), Question> {
+        accepted(unlevel(self, levelled, out))
     }
 
     /// Where a levelled place lies on the page, or outside it.
@@ -62,6 +67,20 @@ pub fn level_gray(page: &Page, out: &mut [u8]) -> u32 {
         page.width,
         page.height,
         page.gray,
+        page.shear,
+        page.shear_x,
+        out,
+    )
+}
+
+/// As the method, with the number of the missed question.
+pub fn unlevel(page: &Page, levelled: &[u8], out: &mut [u8]) -> u32 {
+    raw::lanegravel_unlevel(
+        page.page_width,
+        page.page_height,
+        page.width,
+        page.height,
+        levelled,
         page.shear,
         page.shear_x,
         out,

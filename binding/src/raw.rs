@@ -80,6 +80,10 @@ calls! {
         page_width: usize, page_height: usize, width: usize, height: usize,
         gray: &[u8], shear: &[i32], shear_x: &[i32], out: &mut [u8]
     ) -> u32;
+    lanegravel_unlevel(
+        page_width: usize, page_height: usize, width: usize, height: usize,
+        levelled: &[u8], shear: &[i32], shear_x: &[i32], out: &mut [u8]
+    ) -> u32;
     lanegravel_to_page(
         page_width: usize, page_height: usize, width: usize, height: usize,
         shear: &[i32], shear_x: &[i32], x: u32, y: u32

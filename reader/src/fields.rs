@@ -80,7 +80,7 @@ impl Fields {
         line.finish()
     }
 
-    /// How much is lent under this name: what its line says, or else what question 14 asks.
+    /// How much is lent under this name: what its line says, or else what is asked.
     pub fn room(&self, name: &str, asked: usize) -> usize {
         *self.rooms.get(name).unwrap_or(&asked)
     }
@@ -129,7 +129,7 @@ impl Reading<'_> {
         }
         let taken = match &key[..] {
             "settings" => self.name_settings(line),
-            "gray_file" | "ink_file" => self.name_picture(&key, line),
+            "gray_file" | "ink_file" | "raster_file" => self.name_picture(&key, line),
             _ => self.fields.set(&key, line),
         };
         taken.map_err(|failure| failure.within(&key))

@@ -18,7 +18,8 @@ pub struct Context {
     pub settings: Option<SettingsFile>,
 }
 
-/// A line `gray_file` or `ink_file`. The file is read at the text's `end`, when its sides are known.
+/// A line `gray_file`, `ink_file` or `raster_file`. The file is read at the text's `end`, when its sides
+/// are known.
 pub struct Picture {
     pub key: String,
     pub line: usize,
@@ -39,6 +40,7 @@ impl Picture {
         let mut file = BufReader::with_capacity(1 << 16, file);
         match &self.key[..] {
             "gray_file" => fields.gray = netpbm::gray(&mut file, fields.page)?,
+            "raster_file" => fields.raster = netpbm::gray(&mut file, fields.levelled)?,
             _ => fields.ink = netpbm::ink(&mut file, fields.levelled)?,
         }
         Ok(())

@@ -6,7 +6,7 @@ use crate::Failure;
 use crate::answer::{Refused, Text};
 use crate::boxes::{boxes, grids};
 use crate::fields::Fields;
-use crate::levelling::{level, map};
+use crate::levelling::{Scan, level, map, unlevel};
 use crate::rulings::{segments, sum, tables};
 use crate::settings;
 use crate::text::{Lines, show};
@@ -24,10 +24,12 @@ pub struct Kind {
     pub asked: Asked,
 }
 
-/// What a text asks for: a page, or a call that writes the lines of its answer.
+/// What a text asks for: a page, a call that writes the lines of its answer, or one that brings back the
+/// page as scanned.
 pub enum Asked {
     Page,
     Call(fn(Fields, &mut Text) -> Result<(), Refused>),
+    Scan(fn(Fields) -> Result<Scan, Refused>),
 }
 
 impl Kind {
@@ -37,7 +39,9 @@ impl Kind {
             Some((_, name)) => self.settings && settings::names().any(|known| known == name),
             None => match key {
                 "settings" => self.settings,
-                "gray_file" | "ink_file" => self.keys.contains(&key.trim_end_matches("_file")),
+                "gray_file" | "ink_file" | "raster_file" => {
+                    self.keys.contains(&key.trim_end_matches("_file"))
+                }
                 _ => self.keys.contains(&key),
             },
         }
@@ -80,13 +84,20 @@ const PAGE: Kind = Kind {
     asked: Asked::Page,
 };
 
-const CALLS: [Kind; 7] = [
+const CALLS: [Kind; 8] = [
     Kind {
         name: "call level",
         keys: &["page", "levelled", "shear", "shear_x", "gray"],
         settings: false,
         rooms: &["levelled"],
         asked: Asked::Call(level),
+    },
+    Kind {
+        name: "call unlevel",
+        keys: &["page", "levelled", "shear", "shear_x", "raster"],
+        settings: false,
+        rooms: &["page"],
+        asked: Asked::Scan(unlevel),
     },
     Kind {
         name: "call segments",

@@ -7,8 +7,8 @@ use crate::fields::{Fields, Sides};
 use crate::limits::PLACES;
 use crate::rect::Rect;
 
-/// The most bytes that are lent as a levelled raster: one more than any accepted page has. Lending
-/// more would change no answer.
+/// The most bytes that are lent as a raster: one more than any accepted page has. Lending more would
+/// change no answer.
 pub const MOST_BYTES: usize = PLACES + 1;
 
 fn page(fields: &Fields) -> Page<'_> {
@@ -29,6 +29,23 @@ pub fn level(fields: Fields, text: &mut Text) -> Result<(), Refused> {
     accepted(layout::level_gray(&page(&fields), &mut levelled))?;
     text.raster("levelled", &levelled);
     Ok(())
+}
+
+/// A page as it was scanned.
+pub struct Scan {
+    pub sides: Sides,
+    pub bytes: Vec<u8>,
+}
+
+/// The page of a levelled raster.
+pub fn unlevel(fields: Fields) -> Result<Scan, Refused> {
+    let room = fields.room("page", fields.page.places());
+    let mut bytes = vec![0; room.min(MOST_BYTES)];
+    accepted(layout::unlevel(&page(&fields), &fields.raster, &mut bytes))?;
+    Ok(Scan {
+        sides: fields.page,
+        bytes,
+    })
 }
 
 /// Each rectangle in turn; the first one that is refused refuses the text.

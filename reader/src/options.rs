@@ -49,6 +49,7 @@ pub fn task(arguments: impl IntoIterator<Item = OsString>) -> Result<Task, Strin
             Some("--decimal") => asked.wanted.floats = Floats::Decimal,
             Some("--picture") => asked.wanted.picture = file("--picture")?,
             Some("--levelled") => asked.wanted.levelled = file("--levelled")?,
+            Some("--scan") => asked.wanted.scan = file("--scan")?,
             Some("--settings") => asked.settings = file("--settings")?,
             Some(option) if option.starts_with('-') && option != "-" => {
                 return Err(format!(
@@ -94,7 +95,7 @@ mod tests {
 
     #[test]
     fn every_option_of_the_help_text_is_known() {
-        assert_eq!(helped().count(), 11);
+        assert_eq!(helped().count(), 12);
         for (option, argument) in helped() {
             let argument = argument.unwrap_or_default();
             let value = if argument == "[SEED]" { "7" } else { "name" };

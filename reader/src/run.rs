@@ -10,6 +10,7 @@ use crate::fields::{self, Fields};
 use crate::files::Context;
 use crate::found::Found;
 use crate::kinds::{self, Asked, Kind};
+use crate::levelling::Scan;
 use crate::progress::Progress;
 use crate::text::Lines;
 use crate::{netpbm, page, picture, report};
@@ -25,14 +26,17 @@ pub struct Wanted {
     /// The file of the first page's picture, and of its levelled raster.
     pub picture: Option<PathBuf>,
     pub levelled: Option<PathBuf>,
+    /// The file of the first page that is brought back from its levelled raster.
+    pub scan: Option<PathBuf>,
 }
 
 pub struct Run<W> {
     output: W,
     wanted: Wanted,
-    /// How many texts are answered, and how many of them were pages.
+    /// How many texts are answered, and how many of them were pages, or asked for a scan.
     texts: usize,
     pages: usize,
+    scans: usize,
     progress: Progress,
 }
 
@@ -43,6 +47,7 @@ impl<W: Write> Run<W> {
             wanted,
             texts: 0,
             pages: 0,
+            scans: 0,
             progress: Progress::new(),
         }
     }
@@ -76,17 +81,29 @@ impl<W: Write> Run<W> {
         self.texts += 1;
         match kind.asked {
             Asked::Page => self.answer_page(fields),
-            Asked::Call(call) if self.wanted.report => {
-                let mut text = Text::new(Floats::Decimal);
-                let outcome = call(fields, &mut text).map(|()| text.lines());
-                Ok(report::call(self.texts, kind.name, outcome))
-            }
-            Asked::Call(call) => {
-                let mut text = Text::new(self.wanted.floats);
-                let outcome = call(fields, &mut text);
-                Ok(self.exact(&text, outcome))
+            Asked::Call(call) => Ok(self.answer_call(kind, |text| call(fields, text))),
+            Asked::Scan(call) => {
+                let scan = call(fields);
+                self.write_scan(scan.as_ref().ok())?;
+                let line = |text: &mut Text| scan.map(|scan| text.raster("page", &scan.bytes));
+                Ok(self.answer_call(kind, line))
             }
         }
+    }
+
+    fn answer_call(
+        &mut self,
+        kind: &Kind,
+        call: impl FnOnce(&mut Text) -> Result<(), Refused>,
+    ) -> String {
+        if self.wanted.report {
+            let mut text = Text::new(Floats::Decimal);
+            let outcome = call(&mut text).map(|()| text.lines());
+            return report::call(self.texts, kind.name, outcome);
+        }
+        let mut text = Text::new(self.wanted.floats);
+        let outcome = call(&mut text);
+        self.exact(&text, outcome)
     }
 
     fn answer_page(&mut self, fields: Fields) -> Result<String, Failure> {
@@ -114,31 +131,42 @@ impl<W: Write> Run<W> {
     /// Writes the page's picture and its levelled raster, where they are wanted.
     fn draw(&self, found: &Found) -> Result<(), Failure> {
         if let Some(path) = &self.wanted.picture {
-            write_file(&self.numbered(path), |out| {
+            write_file(&numbered(path, self.pages), |out| {
                 out.write_all(picture::svg(found, self.pages).as_bytes())
             })?;
         }
         if let Some(path) = &self.wanted.levelled {
-            write_file(&self.numbered(path), |out| {
+            write_file(&numbered(path, self.pages), |out| {
                 netpbm::write_gray(out, found.levelled_sides, &found.levelled)
             })?;
         }
         Ok(())
     }
 
-    /// The first page's file is the one that was named; the second one's has -2 before its ending.
-    fn numbered(&self, path: &Path) -> PathBuf {
-        if self.pages == 1 {
-            return path.into();
-        }
-        let mut name = path.file_stem().unwrap_or_default().to_owned();
-        name.push(format!("-{}", self.pages));
-        if let Some(ending) = path.extension() {
-            name.push(".");
-            name.push(ending);
-        }
-        path.with_file_name(name)
+    /// Writes the page that was brought back, where it is wanted; a refused text has none, and counts.
+    fn write_scan(&mut self, scan: Option<&Scan>) -> Result<(), Failure> {
+        self.scans += 1;
+        let (Some(path), Some(scan)) = (&self.wanted.scan, scan) else {
+            return Ok(());
+        };
+        write_file(&numbered(path, self.scans), |out| {
+            netpbm::write_gray(out, scan.sides, &scan.bytes)
+        })
     }
+}
+
+/// The first file is the one that was named; the second one has -2 before its ending.
+fn numbered(path: &Path, number: usize) -> PathBuf {
+    if number == 1 {
+        return path.into();
+    }
+    let mut name = path.file_stem().unwrap_or_default().to_owned();
+    name.push(format!("-{number}"));
+    if let Some(ending) = path.extension() {
+        name.push(".");
+        name.push(ending);
+    }
+    path.with_file_name(name)
 }
 
 fn write_file(

@@ -5,10 +5,11 @@ static const uint8_t gray[] = {10, 11, 20, 21, 30, 31};
 static const int32_t shear[] = {0, 2};
 static const int32_t shear_x[] = {0, 1, 2, 1, 0};
 
+static const int32_t too_far[] = {0, 3};
+static const uint8_t levelled[] = {10,  255, 255, 255, 255, 20,  255, 255, 255, 255,
+                                   30,  11,  255, 255, 21,  255, 255, 31,  255, 255};
+
 static void test_level_gray(void) {
-    static const uint8_t levelled[] = {10,  255, 255, 255, 255, 20,  255, 255, 255, 255,
-                                       30,  11,  255, 255, 21,  255, 255, 31,  255, 255};
-    static const int32_t too_far[] = {0, 3};
     uint8_t out[20];
     memset(out, PATTERN, sizeof out);
     CHECK(lanegravel_level_gray(2, 3, 4, 5, gray, 6, too_far, 2, shear_x, 5, out, 20) == 4);
@@ -17,6 +18,25 @@ static void test_level_gray(void) {
     CHECK(kept(out, sizeof out));
     CHECK(lanegravel_level_gray(2, 3, 4, 5, gray, 6, shear, 2, shear_x, 5, out, 20) == 0);
     ANSWERED(out, levelled);
+}
+
+static void test_unlevel(void) {
+    uint8_t out[6], archived[20];
+    memset(out, PATTERN, sizeof out);
+    CHECK(lanegravel_unlevel(0, 3, 4, 5, levelled, 20, shear, 2, shear_x, 5, out, 6) == 1);
+    CHECK(lanegravel_unlevel(2, 3, 4, 5, levelled, 19, shear, 2, shear_x, 5, out, 5) == 3);
+    CHECK(lanegravel_unlevel(2, 3, 4, 5, levelled, 20, too_far, 2, shear_x, 5, out, 6) == 4);
+    CHECK(lanegravel_unlevel(2, 3, 4, 5, levelled, 19, shear, 2, shear_x, 5, out, 6) == 14);
+    CHECK(lanegravel_unlevel(2, 3, 4, 5, NULL, 0, NULL, 0, NULL, 0, NULL, 0) == 3);
+    CHECK(kept(out, sizeof out));
+    CHECK(lanegravel_unlevel(2, 3, 4, 5, levelled, 20, shear, 2, shear_x, 5, out, 6) == 0);
+    ANSWERED(out, gray);
+    /* What stands in the padding is of no account. */
+    memcpy(archived, levelled, sizeof archived);
+    archived[1] = 7;
+    memset(out, PATTERN, sizeof out);
+    CHECK(lanegravel_unlevel(2, 3, 4, 5, archived, 20, shear, 2, shear_x, 5, out, 6) == 0);
+    ANSWERED(out, gray);
 }
 
 static void to_page(uint32_t x, uint32_t y, uint32_t number, int64_t page_x, int64_t page_y) {
@@ -60,6 +80,7 @@ static void test_rect_to_page(void) {
 
 void test_levelling(void) {
     test_level_gray();
+    test_unlevel();
     test_to_page();
     test_rect_to_page();
 }

@@ -49,6 +49,16 @@ static void call_level_gray(const struct input *in) {
     number == 0 ? answer_in(out, out_count) : refused();
 }
 
+/* The ink stands in for a levelled raster, which has as many bytes. */
+static void call_unlevel(const struct input *in) {
+    size_t out_count = in->gray_count + (in->short_list == 0) - (in->short_list == 1 && in->gray_count != 0);
+    uint8_t *out = lend(out_count);
+    uint32_t number = lanegravel_unlevel(in->page_width, in->page_height, in->width, in->height,
+                                         GIVE(ink), GIVE(shear), GIVE(shear_x), out, out_count);
+    answer(number);
+    number == 0 ? answer_in(out, out_count) : refused();
+}
+
 static void call_to_page(const struct input *in) {
     const uint32_t *r = in->pieces;
     struct lanegravel_to_page_answer a = lanegravel_to_page(
@@ -207,8 +217,8 @@ static void call_finding_at(const struct input *in) {
 }
 
 call_of *const calls[] = {
-    call_floats,  call_members_of, call_validate, call_level_gray, call_to_page,    call_rect_to_page,
-    call_segments, call_tables,    call_boxes,    call_box_grids,  call_finding_at, call_detect,
-    call_detect,  call_detect,
+    call_floats,   call_members_of, call_validate, call_level_gray, call_unlevel,    call_to_page,
+    call_rect_to_page, call_segments, call_tables, call_boxes,      call_box_grids,  call_finding_at,
+    call_detect,   call_detect,     call_detect,
 };
 const size_t calls_count = sizeof calls / sizeof calls[0];

@@ -13,5 +13,6 @@ mod rect_to_page_call;
 mod segments_call;
 mod tables_call;
 mod to_page_call;
+mod unlevel_call;
 mod validate_call;
 mod validate_fusion_call;

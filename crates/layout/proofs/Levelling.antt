@@ -13,7 +13,7 @@ use Rattle.layout.specs.declared.sides.Sides.{Sides}
 use Rattle.layout.specs.declared.page.PagePlace.{PagePlace}
 use Rattle.layout.specs.Tables.{entry}
 use Rattle.layout.specs.Steps.{Sheared}
-use Rattle.layout.specs.Level.{levelRow, levelColumn, placeShows, levelled, Levelling}
+use Rattle.layout.specs.Level.{levelRow, levelColumn, placeShows, levelled, pixelIn, Unreached, WhitePadding, Levelling}
 use Rattle.layout.specs.ToPage.{nearest, toPage}
 use Rattle.layout.proofs.Places.{le-or-lt, raster-length, raster-at, raster-is}
 use Rattle.layout.proofs.Shows.{column-on, column-off, place-on, place-beside}
@@ -52,17 +52,13 @@ module _ (sides : Sides) (shear shear-x : List ℤ) (x y : ℕ) where
     column : levelColumn shear shear-x X Y ≡ x
     row : levelRow shear X Y ≡ y
 
-  -- no page pixel reaches it
-  abbrev Unreached : Type 0
-  Unreached = (X Y : ℕ) → X < sides .pw → Y < sides .ph → levelColumn shear shear-x X Y ≡ x → levelRow shear X Y ≡ y → ⊥
-
   -- what reaches a place comes from the one page column that its row's shift puts there
   from-column : (X Y : ℕ) → levelColumn shear shear-x X Y ≡ x → levelRow shear X Y ≡ y → X + entry shear-x y ≡ x
   from-column X Y column row = omega (arith, ap (entry shear-x) row)
 
   module _ (gray : List ℕ) where
     abbrev White : Type 0
-    White = Unreached × (placeShows sides gray shear shear-x x y ≡ 255)
+    White = Unreached sides shear shear-x x y × (placeShows sides gray shear shear-x x y ≡ 255)
 
     -- a place in a page column: the page row that stands there, or none
     in-column : (X : ℕ) → x ≡ entry shear-x y + X → X < sides .pw → Reached ⊎ White
@@ -106,7 +102,7 @@ module _ (sides : Sides) (shear shear-x : List ℤ) (sheared : Sheared sides she
       (omega (arith, sheared .rows .most (levelRow shear X Y) row, sheared .page-wide), row)
 
   module _ (gray : List ℕ) where
-    reached : (X Y : ℕ) → X < sides .pw → Y < sides .ph → getD (levelled sides gray shear shear-x) (levelRow shear X Y * sides .w + levelColumn shear shear-x X Y) 0 ≡ getD gray (Y * sides .pw + X) 0
+    reached : (X Y : ℕ) → X < sides .pw → Y < sides .ph → pixelIn sides (levelled sides gray shear shear-x) shear shear-x X Y ≡ getD gray (Y * sides .pw + X) 0
     reached X Y p q =
         let C = levelColumn shear shear-x X Y in
         let R = levelRow shear X Y in
@@ -117,7 +113,7 @@ module _ (sides : Sides) (shear shear-x : List ℤ) (sheared : Sheared sides she
         ∙ column-on sides gray X R (entry shear X) (omega arith) (omega arith)
         ∙ ap (λ (k : ℕ). getD gray (k * sides .pw + X) 0) back
 
-    white : (x y : ℕ) → x < sides .w → y < sides .h → Unreached sides shear shear-x x y → getD (levelled sides gray shear shear-x) (y * sides .w + x) 0 ≡ 255
+    white : WhitePadding sides (levelled sides gray shear shear-x) shear shear-x
     white x y p q none =
         raster-at (sides .w) (sides .h) (placeShows sides gray shear shear-x) x y p q
         ∙ ⊎-elim

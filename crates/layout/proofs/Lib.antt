@@ -7,4 +7,6 @@ pub mod Places
 pub mod Shows
 pub mod Back
 pub mod Levelling
+pub mod Unlevelling
+pub mod Pixels
 pub mod Guards

@@ -1,10 +1,10 @@
 -- What `to_page` and `rect_to_page` answer: the questions that they put, in document 01's order, and the answer where none is missed.
-use Prim.Native.Nat.{ℕ}
+use Prim.Native.Nat.{ℕ, _<_}
 use mathlib.Core.Path.{_≡_}
-use mathlib.Core.Bool.{cond}
+use mathlib.Core.Bool.{true, cond}
 use mathlib.Core.List.{List, [], _∷_}
 use lib.Dec.{eqb}
-use lib.IntN.{ℤ}
+use lib.IntN.{ℤ, pos}
 use Rattle.questions.specs.Questions.{Question, firstMissed}
 use Rattle.layout.specs.declared.sides.Sides.{Sides}
 use Rattle.rects.specs.declared.Rect.{Rect}
@@ -14,7 +14,8 @@ use Rattle.layout.specs.declared.calls.Mapped.the-variants.{Place, Refus
 use Rattle.layout.specs.declared.calls.MappedRect.{MappedRect}
 use Rattle.layout.specs.declared.calls.MappedRect.the-variants.{Area, RefusedArea}
 use Rattle.layout.specs.Sides.{sidesFit}
-use Rattle.layout.specs.Tables.{shearsLong, shearsFit}
+use Rattle.layout.specs.Tables.{shearsLong, shearsFit, tablesPass}
+use Rattle.layout.specs.Level.{levelRow, levelColumn}
 use Rattle.rects.specs.Rects.{inside}
 use Rattle.layout.specs.ToPage.{toPage, rectToPage}
 
@@ -51,10 +52,19 @@ abbrev pub areaValues : MappedRect → List ℕ
 areaValues (Area r) = r .x0 ∷ r .y0 ∷ r .x1 ∷ r .y1 ∷ []
 areaValues (RefusedArea n) = []
 
--- `to_page` answers with the number of the first missed question, and with the page place where that is 0.
+-- Number and values of `to_page` at place p: where p is the levelled place of page pixel (X, Y), and sides and tables pass their questions, no question
+-- is missed, and the values are that pixel.
+abbrev pub PixelBack : Sides → List ℤ → List ℤ → Levelled → ℕ → List ℤ → Type 0
+PixelBack sides shear shear-x p number values =
+    tablesPass sides shear shear-x ≡ true
+    → (X Y : ℕ) → X < sides .pw → Y < sides .ph → p .0 ≡ levelColumn shear shear-x X Y → p .1 ≡ levelRow shear X Y
+    → (number ≡ 0) × (values ≡ pos X ∷ pos Y ∷ [])
+
+-- `to_page` answers with the number of the first missed question, and with the page place where that is 0: the pixel itself, of a pixel's place.
 pub record ToPage (sides : Sides) (shear shear-x : List ℤ) (p : Levelled) (answer : Mapped) : Type 0 where
   pub number : mappedNumber answer ≡ firstMissed (mapQuestions sides shear shear-x (onePixel p))
   pub values : let q = toPage sides shear shear-x p in mappedValues answer ≡ cond (eqb (mappedNumber answer) 0) (q .0 ∷ q .1 ∷ []) []
+  pub pixel : PixelBack sides shear shear-x p (mappedNumber answer) (mappedValues answer)
 
 -- `rect_to_page` answers with the number of the first missed question, and with the page rectangle where that is 0.
 pub record RectToPage (sides : Sides) (shear shear-x : List ℤ) (r : Rect) (answer : MappedRect) : Type 0 where

@@ -7,6 +7,7 @@ use lib.IntN.{ℤ, pos, natAbs}
 use lib.Signed.{nonNeg}
 use lib.ListN.{length, getD}
 use Rattle.layout.specs.declared.sides.Sides.{Sides}
+use Rattle.layout.specs.Sides.{sidesFit}
 use Rattle.lists.specs.Lists.{everyBelow}
 
 -- The entry of a shear table at an index; one that passes question 4 is not below 0.
@@ -28,3 +29,7 @@ shearsLong sides shear shear-x = eqb (length shear) (sides .pw) && eqb (length s
 -- Question 4: every `shear` entry from 0 to height − page height, every `shear_x` entry from 0 to width − page width.
 abbrev pub shearsFit : Sides → List ℤ → List ℤ → Bool
 shearsFit sides shear shear-x = entriesFit (sides .h - sides .ph) shear && entriesFit (sides .w - sides .pw) shear-x
+
+-- Sides and tables that pass questions 1, 3 and 4.
+abbrev pub tablesPass : Sides → List ℤ → List ℤ → Bool
+tablesPass sides shear shear-x = sidesFit sides && shearsLong sides shear shear-x && shearsFit sides shear shear-x

@@ -5,36 +5,28 @@ use Prim.Native.Nat.{ℕ}
 use lib.IntN.{ℤ}
 use lib.ListN.{length}
 use Rattle.questions.specs.Questions.{firstMissed}
-use Rattle.questions.proofs.FirstMissed.{all-yes}
 use Rattle.layout.specs.declared.sides.Sides.{Sides}
-use Rattle.layout.specs.Sides.{rasterFits}
-use Rattle.layout.specs.Tables.{shearsLong}
 use Rattle.layout.specs.Level.{levelled, Levelling}
-use Rattle.layout.proofs.Every.{and-parts}
-use Rattle.layout.proofs.Answers.{sheared-yes, raster-yes}
 use Rattle.layout.proofs.Levelling.{levelled-is}
 use Rattle.levelling.specs.Steps.{Ready}
-use Rattle.level_gray.specs.Call.{levelQuestions, LevelGray}
+use Rattle.level_questions.specs.Questions.{levelQuestions}
+use Rattle.level_questions.proofs.Guards.{passed-yes}
+use Rattle.level_gray.specs.Call.{LevelGray}
 
-module _ (sides : Sides) (shear shear-x : List ℤ) where
-  pub ready-yes : (gray out : List ℕ) → firstMissed (levelQuestions sides gray shear shear-x (length out)) ≡ 0 → Ready sides gray shear shear-x out
-  ready-yes gray out h =
-      let yes = all-yes (levelQuestions sides gray shear shear-x (length out)) tt h in
-      let three = and-parts (rasterFits (sides .pw) (sides .ph) (length gray)) (shearsLong sides shear shear-x) (yes .1 .0) in
-      record {
-        sheared = sheared-yes sides shear shear-x (yes .0) (three .1) (yes .1 .1 .0);
-        grey-long = raster-yes (sides .pw) (sides .ph) (length gray) (three .0);
-        out-long = raster-yes (sides .w) (sides .h) (length out) (yes .1 .1 .1 .0);
-      }
+module _ (sides : Sides) (gray : List ℕ) (shear shear-x : List ℤ) (out : List ℕ) where
+  pub ready-yes : firstMissed (levelQuestions sides (length gray) shear shear-x (length out)) ≡ 0 → Ready sides gray shear shear-x out
+  ready-yes h =
+      let yes = passed-yes sides shear shear-x (length gray) (length out) h in
+      record { sheared = yes .sheared; grey-long = yes .page-long; out-long = yes .level-long }
 
-  pub level-refused : (gray out : List ℕ) (q : ℕ) → q ≡ firstMissed (levelQuestions sides gray shear shear-x (length out)) → (q ≡ 0 → ⊥) → LevelGray sides gray shear shear-x out out q
-  level-refused gray out q e h = record { number = e; refused = λ _. refl; answers = λ z. absurd (h z); levelling = λ z. absurd (h z) }
+  pub level-refused : (q : ℕ) → q ≡ firstMissed (levelQuestions sides (length gray) shear shear-x (length out)) → (q ≡ 0 → ⊥) → LevelGray sides gray shear shear-x out out q
+  level-refused q e h = record { number = e; refused = λ _. refl; answers = λ z. absurd (h z); levelling = λ z. absurd (h z) }
 
-  pub level-accepted : (gray out out′ : List ℕ) (q : ℕ) → q ≡ firstMissed (levelQuestions sides gray shear shear-x (length out)) → q ≡ 0 → out′ ≡ levelled sides gray shear shear-x → LevelGray sides gray shear shear-x out out′ q
-  level-accepted gray out out′ q e z h =
+  pub level-accepted : (out′ : List ℕ) (q : ℕ) → q ≡ firstMissed (levelQuestions sides (length gray) shear shear-x (length out)) → q ≡ 0 → out′ ≡ levelled sides gray shear shear-x → LevelGray sides gray shear shear-x out out′ q
+  level-accepted out′ q e z h =
       record {
         number = e;
         refused = λ n. absurd (n z);
         answers = λ _. h;
-        levelling = λ _. subst (Levelling sides gray shear shear-x) (sym h) (levelled-is sides shear shear-x (ready-yes gray out (sym e ∙ z) .sheared) gray);
+        levelling = λ _. subst (Levelling sides gray shear shear-x) (sym h) (levelled-is sides shear shear-x (ready-yes (sym e ∙ z) .sheared) gray);
       }

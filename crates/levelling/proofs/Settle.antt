@@ -1,81 +1,22 @@
--- Steps of levelling follow each other: areas grow, and what was right stays right.
-use mathlib.Core.Path.{_≡_, refl, sym, ap, _∙_, subst}
+-- What levelling's steps leave, put together: parts of rows, margins, and all columns of a band.
+use mathlib.Core.Path.{_≡_, refl, sym, ap, _∙_}
 use mathlib.Core.Bool.{Bool}
 use mathlib.Core.Logic.{_⊎_, inl, inr, ⊎-elim}
 use mathlib.Core.List.{List}
 use Prim.Native.Nat.{ℕ, _+_, _-_, _*_, _≤_, _<_}
-use native.Mathlib.Nat.{eq-or-lt-of-le}
 use native.Mathlib.Omega.{arith}
 use lib.IntN.{ℤ}
 use lib.ListN.{length, getD, take, drop, replicate, length-drop, length-replicate, getD-replicate}
 use lib.Seq.{length-take-le}
 use Rattle.layout.specs.declared.sides.Sides.{Sides}
 use Rattle.layout.specs.Tables.{entry}
-use Rattle.shear_runs.specs.Steps.{Together}
-use Rattle.levelling.specs.Steps.{Painted, Sheets, Framed, Ready, Shows, Whitened, LevelledArea, InRows, Outside, Columns, Margins, All}
-use Rattle.layout.specs.Level.{columnShows, pageShows, placeShows, levelled}
-use Rattle.layout.proofs.Places.{le-or-lt, rows-apart, row-within, raster-is}
+use Rattle.shear_runs.specs.Steps.{Together, Shows, InRows, Columns, All}
+use Rattle.levelling.specs.Steps.{Painted, Sheets, Framed, Ready, Whitened, LevelledArea, Outside, Margins}
+use Rattle.layout.specs.Level.{columnShows, pageShows, placeShows}
+use Rattle.layout.proofs.Places.{le-or-lt, row-within}
 use Rattle.layout.proofs.Shows.{place-on, place-beside}
-use Rattle.levelling.proofs.Parts.{put, put-length, put-inside, put-before, put-after}
-
--- nothing done is right in an area without places
-pub holds-none : (w : ℕ) (f : ℕ → ℕ → ℕ) (area : ℕ → ℕ → Type 0) (out : List ℕ) → ((x y : ℕ) → x < w → area x y → ⊥) → Shows w f area out out
-holds-none w f area out none = record { long = refl; kept = λ x y l h. h; right = λ x y l a. absurd (none x y l a) }
-
--- one step, then another
-pub holds-then : {w : ℕ} {f : ℕ → ℕ → ℕ} {P Q R : ℕ → ℕ → Type 0} {a b c : List ℕ} → Shows w f P a b → Shows w f Q b c → ((x y : ℕ) → x < w → R x y → P x y ⊎ Q x y) → Shows w f R a c
-holds-then p q cover =
-    record {
-      long = q .long ∙ p .long;
-      kept = λ x y l h. q .kept x y l (p .kept x y l h);
-      right = λ x y l r. ⊎-elim (λ h. q .kept x y l (p .right x y l h)) (λ h. q .right x y l h) (cover x y l r);
-    }
-
--- a part of row y that was written with what is right there
-module _ (w : ℕ) (f : ℕ → ℕ → ℕ) (y a n : ℕ) (out ys : List ℕ) (long : length ys ≡ n) (in-row : a + n ≤ w) (room : y * w + a + n ≤ length out) (shows : (k : ℕ) → k < n → getD ys k 0 ≡ f (a + k) y) where
-  out′ : List ℕ
-  out′ = put (y * w + a) n ys out
-
-  inside : (x : ℕ) → a ≤ x → x < a + n → getD out′ (y * w + x) 0 ≡ f x y
-  unfolding out′
-  inside x l m =
-      let k = x - a in
-      let place : y * w + x ≡ y * w + a + k = omega arith in
-      let back : a + k ≡ x = omega arith in
-      ap (λ (p : ℕ). getD (put (y * w + a) n ys out) p 0) place ∙ put-inside (y * w + a) n ys out long room k (omega arith) ∙ shows k (omega arith) ∙ ap (λ (i : ℕ). f i y) back
-
-  same-row : (x : ℕ) → x < w → getD out (y * w + x) 0 ≡ f x y → getD out′ (y * w + x) 0 ≡ f x y
-  unfolding out′
-  same-row x l h =
-      ⊎-elim
-      (λ (m : a ≤ x). ⊎-elim (λ (r : a + n ≤ x). put-after (y * w + a) n ys out long room (y * w + x) (omega arith) ∙ h) (λ (r : x < a + n). inside x m r) (le-or-lt (a + n) x))
-      (λ (m : x < a). put-before (y * w + a) n ys out long room (y * w + x) (omega arith) ∙ h)
-      (le-or-lt a x)
-
-  kept : (x z : ℕ) → x < w → getD out (z * w + x) 0 ≡ f x z → getD out′ (z * w + x) 0 ≡ f x z
-  unfolding out′
-  kept x z l h =
-      ⊎-elim
-      (λ (m : y ≤ z).
-      ⊎-elim
-      (λ (e : y ≡ z). subst (λ (r : ℕ). getD out (r * w + x) 0 ≡ f x r → getD out′ (r * w + x) 0 ≡ f x r) e (same-row x l) h)
-      (λ (r : y < z). put-after (y * w + a) n ys out long room (z * w + x) (omega (arith, rows-apart w r)) ∙ h)
-      (eq-or-lt-of-le m))
-      (λ (m : z < y). put-before (y * w + a) n ys out long room (z * w + x) (omega (arith, rows-apart w m)) ∙ h)
-      (le-or-lt y z)
-
-  pub part-holds : Shows w f (λ x z. (z ≡ y) × ((a ≤ x) × (x < a + n))) out (put (y * w + a) n ys out)
-  unfolding out′
-  part-holds =
-      record {
-        long = put-length (y * w + a) n ys out long room;
-        kept = kept;
-        right = λ x z l h. subst (λ (r : ℕ). getD out′ (r * w + x) 0 ≡ f x r) (sym (h .0)) (inside x (h .1 .0) (h .1 .1));
-      }
-
--- a smaller area
-pub holds-in : {w : ℕ} {f : ℕ → ℕ → ℕ} {P R : ℕ → ℕ → Type 0} {a b : List ℕ} → Shows w f P a b → ((x y : ℕ) → x < w → R x y → P x y) → Shows w f R a b
-holds-in p part = record { long = p .long; kept = p .kept; right = λ x y l r. p .right x y l (part x y l r) }
+use Rattle.shear_runs.proofs.Parts.{put, put-length}
+use Rattle.shear_runs.proofs.Areas.{holds-none, holds-then, holds-in, part-holds, part-long, part-shows}
 
 -- what is given at one step is given at the next
 pub ready-long : {sides : Sides} {gray : List ℕ} {shear shear-x : List ℤ} {a : List ℕ} (b : List ℕ) → length b ≡ length a → Ready sides gray shear shear-x a → Ready sides gray shear shear-x b
@@ -88,18 +29,6 @@ pub ready-framed : {sides : Sides} {gray : List ℕ} {shear shear-x : List ℤ} 
 ready-framed r =
     let s = r .sheared in
     record { page-wide = s .page-wide; wide = s .wide; high = s .high; rows = s .rows; out-long = r .out-long }
-
-module _ (sides : Sides) (gray : List ℕ) (shear shear-x : List ℤ) (area : ℕ → ℕ → Type 0) where
-  pub rows-none : (y : ℕ) (out : List ℕ) → LevelledArea sides gray shear shear-x area y y out out
-  rows-none y out = holds-none (sides .w) (placeShows sides gray shear shear-x) (InRows y y area) out (λ x z l h. omega (arith, h .0 .0, h .0 .1))
-
-  -- the rows up to y, then those from y on
-  pub rows-then : (y0 y y1 : ℕ) {a b c : List ℕ} → LevelledArea sides gray shear shear-x area y0 y a b → LevelledArea sides gray shear shear-x area y y1 b c → LevelledArea sides gray shear shear-x area y0 y1 a c
-  rows-then y0 y y1 p q =
-      holds-then p q (λ x z l h. ⊎-elim (λ (m : y ≤ z). inr ((m, h .0 .1), h .1)) (λ (m : z < y). inl ((h .0 .0, m), h .1)) (le-or-lt y z))
-
-  pub rows-fewer : (y0 y1 y : ℕ) {a b : List ℕ} → y1 ≤ y → LevelledArea sides gray shear shear-x area y0 y a b → LevelledArea sides gray shear shear-x area y0 y1 a b
-  rows-fewer y0 y1 y fewer p = holds-in p (λ x z l h. ((h .0 .0, omega (arith, h .0 .1)), h .1))
 
 -- a run shows each of its columns
 pub run-painted : (sides : Sides) (gray : List ℕ) (shear : List ℤ) {from y down : ℕ} {out out′ : List ℕ} → down ≡ entry shear from
@@ -122,11 +51,16 @@ module _ (sides : Sides) (gray : List ℕ) (shear shear-x : List ℤ) (out : Lis
       (omega (arith, part .within), (omega (arith, part .within, ready .sheared .page-wide), omega (arith, ready .out-long)))
 
   -- what is lent of the row is as long as they are many
+  lent : (s n : ℕ) → s ≡ y * sides .w + entry shear-x y + from → n ≡ to - from → length (take n (drop s out)) ≡ n
+  lent s n is-s is-n =
+      let room = part-within in
+      part-long (sides .w) (placeShows sides gray shear shear-x) (entry shear-x) from to y s n out (part .more) (room .1 .0) (room .1 .1) is-s is-n
+
   pub part-given : (at s n : ℕ) → at ≡ entry shear-x y → s ≡ y * sides .w + at + from → n ≡ to - from
       → let k = length (take n (drop s out)) in Sheets sides gray shear × ((from + k ≤ sides .pw) × Together shear from (from + k) run)
   part-given at s n is-at is-s is-n =
       let room = part-within in
-      let long : length (take n (drop s out)) ≡ n = length-take-le n (drop s out) (omega (arith, length-drop s out, part .more, room .1 .0, room .1 .1)) in
+      let long = lent s n (omega arith) is-n in
       let end : from + length (take n (drop s out)) ≡ to = omega (arith, part .more) in
       let r = ready .sheared in (
         record {
@@ -139,18 +73,14 @@ module _ (sides : Sides) (gray : List ℕ) (shear shear-x : List ℤ) (out : Lis
         (omega (arith, room .0), rw end part),
       )
 
-  pub part-settled : (at s n : ℕ) (ys : List ℕ) → at ≡ entry shear-x y → s ≡ y * sides .w + at + from → n ≡ to - from → Painted (pageShows sides gray shear) from y (take n (drop s out)) ys → LevelledArea sides gray shear shear-x (Columns shear-x from to) y (y + 1) out (put s n ys out)
+  pub part-settled : (at s n : ℕ) (ys : List ℕ) → at ≡ entry shear-x y → s ≡ y * sides .w + at + from → n ≡ to - from → Painted (pageShows sides gray shear) from y (take n (drop s out)) ys → LevelledArea sides gray shear shear-x (Columns (entry shear-x) from to) y (y + 1) out (put s n ys out)
   part-settled at s n ys is-at is-s is-n painted =
-      let w = sides .w in
       let f = placeShows sides gray shear shear-x in
-      let a = at + from in
       let room = part-within in
-      let whole : s ≡ y * w + a = omega arith in
-      let long : length (take n (drop s out)) ≡ n = length-take-le n (drop s out) (omega (arith, length-drop s out, part .more, room .1 .0, room .1 .1)) in
-      let shows : (k : ℕ) → k < n → getD ys k 0 ≡ f (a + k) y = λ k m.
-      painted .shows k (omega arith) ∙ sym (place-on sides gray shear shear-x (a + k) y (from + k) (omega arith) (omega (arith, part .more, room .0))) in
-      let written = part-holds w f y a n out ys (painted .long ∙ long) (omega (arith, part .more, room .1 .0)) (omega (arith, part .more, room .1 .0, room .1 .1)) shows in
-      rw whole (holds-in written (λ x z l h. let same : z ≡ y = omega (arith, h .0 .0, h .0 .1) in (same, (omega (arith, ap (entry shear-x) same, h .1 .0), omega (arith, ap (entry shear-x) same, h .1 .1, part .more)))))
+      let here : s ≡ y * sides .w + entry shear-x y + from = omega arith in
+      let long = lent s n here is-n in
+      part-shows (sides .w) f (entry shear-x) from to y s n out (part .more) (room .1 .0) (room .1 .1) here is-n ys (painted .long ∙ long)
+      (λ k m. painted .shows k (omega arith) ∙ sym (place-on sides gray shear shear-x (entry shear-x y + from + k) y (from + k) (omega arith) (omega (arith, part .more, room .0))))
 
 -- ---- white paper
 
@@ -163,17 +93,17 @@ white-then p q cover from-p from-q =
 
 -- a part of row y that was written white
 module _ (w y a n s : ℕ) (out ys : List ℕ) (place : s ≡ y * w + a) (in-row : a + n ≤ w) (room : y * w + w ≤ length out) (white : ys ≡ replicate (length (take n (drop s out))) 255) where
-  part-long : length (take n (drop s out)) ≡ n
-  part-long = length-take-le n (drop s out) (omega (arith, length-drop s out))
+  margin-long : length (take n (drop s out)) ≡ n
+  margin-long = length-take-le n (drop s out) (omega (arith, length-drop s out))
 
   pub white-long : length (put s n ys out) ≡ length out
-  white-long = put-length s n ys out (ap length white ∙ length-replicate (length (take n (drop s out))) 255 ∙ part-long) (omega arith)
+  white-long = put-length s n ys out (ap length white ∙ length-replicate (length (take n (drop s out))) 255 ∙ margin-long) (omega arith)
 
   pub white-part : Whitened w (InRows y (y + 1) (λ x z. (a ≤ x) × (x < a + n))) out (put s n ys out)
   white-part = rw place (record { holds = at })
     where
       all-white : ys ≡ replicate n 255
-      all-white = white ∙ ap (λ (k : ℕ). replicate k 255) part-long
+      all-white = white ∙ ap (λ (k : ℕ). replicate k 255) margin-long
 
       at : (f : ℕ → ℕ → ℕ) → ((x z : ℕ) → x < w → InRows y (y + 1) (λ x z. (a ≤ x) × (x < a + n)) x z → f x z ≡ 255) → Shows w f (InRows y (y + 1) (λ x z. (a ≤ x) × (x < a + n))) out (put (y * w + a) n ys out)
       at f is-white =
@@ -213,26 +143,11 @@ margins-more sides shear-x y0 y s order is-s p q = white-then p q cover (λ x z 
         let same : entry shear-x z ≡ s = ap (entry shear-x) (omega (arith, h .0 .0, h .0 .1)) ∙ sym is-s in
         ((omega (arith, h .0 .0), h .0 .1), ⊎-elim (λ (g : x < s). inl (omega arith)) (λ (g : s + sides .pw ≤ x). inr (omega arith)) (h .1))
 
--- ---- the columns of a band, run by run
-
-module _ (sides : Sides) (gray : List ℕ) (shear shear-x : List ℤ) (y0 y1 : ℕ) where
-  pub columns-none : (out : List ℕ) → LevelledArea sides gray shear shear-x (Columns shear-x 0 0) y0 y1 out out
-  columns-none out = holds-none (sides .w) (placeShows sides gray shear shear-x) (InRows y0 y1 (Columns shear-x 0 0)) out (λ x z l h. omega (arith, h .1 .0, h .1 .1))
-
-  pub columns-then : (to to′ : ℕ) {a b c : List ℕ} → LevelledArea sides gray shear shear-x (Columns shear-x 0 to) y0 y1 a b → LevelledArea sides gray shear shear-x (Columns shear-x to to′) y0 y1 b c → LevelledArea sides gray shear shear-x (Columns shear-x 0 to′) y0 y1 a c
-  columns-then to to′ p q =
-      holds-then p q (λ x z l h. ⊎-elim (λ (m : entry shear-x z + to ≤ x). inr (h .0, (m, h .1 .1))) (λ (m : x < entry shear-x z + to). inl (h .0, (h .1 .0, m))) (le-or-lt (entry shear-x z + to) x))
-
-  -- the margins, then all columns
-  pub band-whole : (n : ℕ) {a b c : List ℕ} → sides .pw ≤ n → Whitened (sides .w) (InRows y0 y1 (Margins sides shear-x)) a b → LevelledArea sides gray shear shear-x (Columns shear-x 0 n) y0 y1 b c → LevelledArea sides gray shear shear-x All y0 y1 a c
-  band-whole n whole p q =
-      holds-then (p .holds (placeShows sides gray shear shear-x) (λ x z l h. place-beside sides gray shear shear-x x z (h .1))) q (λ x z l h.
-      ⊎-elim
-      (λ (m : entry shear-x z ≤ x). ⊎-elim (λ (g : entry shear-x z + sides .pw ≤ x). inl (h .0, inr g)) (λ (g : x < entry shear-x z + sides .pw). inr (h .0, (omega arith, omega arith))) (le-or-lt (entry shear-x z + sides .pw) x))
-      (λ (m : x < entry shear-x z). inl (h .0, inl m))
-      (le-or-lt (entry shear-x z) x))
-
--- all rows are the raster
-pub all-levelled : (sides : Sides) (gray : List ℕ) (shear shear-x : List ℤ) (out out′ : List ℕ) (y : ℕ) → sides .h ≤ y → Ready sides gray shear shear-x out → LevelledArea sides gray shear shear-x All 0 y out out′ → out′ ≡ levelled sides gray shear shear-x
-all-levelled sides gray shear shear-x out out′ y whole r p =
-    raster-is (sides .w) (sides .h) (placeShows sides gray shear shear-x) out′ (p .long ∙ r .out-long) (λ x z l m. p .right x z l ((omega arith, omega arith), tt))
+-- the margins of a band, then all its columns
+pub band-whole : (sides : Sides) (gray : List ℕ) (shear shear-x : List ℤ) (y0 y1 n : ℕ) {a b c : List ℕ} → sides .pw ≤ n → Whitened (sides .w) (InRows y0 y1 (Margins sides shear-x)) a b → LevelledArea sides gray shear shear-x (Columns (entry shear-x) 0 n) y0 y1 b c → LevelledArea sides gray shear shear-x All y0 y1 a c
+band-whole sides gray shear shear-x y0 y1 n whole p q =
+    holds-then (p .holds (placeShows sides gray shear shear-x) (λ x z l h. place-beside sides gray shear shear-x x z (h .1))) q (λ x z l h.
+    ⊎-elim
+    (λ (m : entry shear-x z ≤ x). ⊎-elim (λ (g : entry shear-x z + sides .pw ≤ x). inl (h .0, inr g)) (λ (g : x < entry shear-x z + sides .pw). inr (h .0, (omega arith, omega arith))) (le-or-lt (entry shear-x z + sides .pw) x))
+    (λ (m : x < entry shear-x z). inl (h .0, inl m))
+    (le-or-lt (entry shear-x z) x))

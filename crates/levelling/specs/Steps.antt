@@ -1,4 +1,4 @@
--- What the steps of levelling promise each other. Each writes only what is right, so what is right stays right.
+-- What the steps of levelling promise each other, with `shear_runs`' steps.
 use Prim.Native.Nat.{ℕ, _-_, _≤_, _<_, _+_, _*_}
 use mathlib.Core.Path.{_≡_}
 use mathlib.Core.Logic.{_⊎_}
@@ -9,6 +9,7 @@ use Rattle.layout.specs.declared.sides.Sides.{Sides}
 use Rattle.layout.specs.Tables.{entry}
 use Rattle.layout.specs.Level.{placeShows}
 use Rattle.layout.specs.Steps.{NotBelow, Table, Sheared}
+use Rattle.shear_runs.specs.Steps.{Shows, InRows}
 
 -- A part of row y that begins at column `from` shows f.
 pub record Painted (f : ℕ → ℕ → ℕ) (from y : ℕ) (out out′ : List ℕ) : Type 0 where
@@ -37,16 +38,6 @@ pub record Ready (sides : Sides) (gray : List ℕ) (shear shear-x : List ℤ) (o
   pub grey-long : length gray ≡ sides .pw * sides .ph
   pub out-long : length out ≡ sides .w * sides .h
 
--- In rasters of w columns, from out to out′: every place of the area holds f, and every place that held f still does.
-pub record Shows (w : ℕ) (f : ℕ → ℕ → ℕ) (area : ℕ → ℕ → Type 0) (out out′ : List ℕ) : Type 0 where
-  pub long : length out′ ≡ length out
-  pub kept : (x y : ℕ) → x < w → getD out (y * w + x) 0 ≡ f x y → getD out′ (y * w + x) 0 ≡ f x y
-  pub right : (x y : ℕ) → x < w → area x y → getD out′ (y * w + x) 0 ≡ f x y
-
--- The part of an area that lies in the rows from y0 up to y1.
-abbrev pub InRows : ℕ → ℕ → (ℕ → ℕ → Type 0) → ℕ → ℕ → Type 0
-InRows y0 y1 area x y = ((y0 ≤ y) × (y < y1)) × area x y
-
 -- White paper in the area: right for every f that is 255 there.
 pub record Whitened (w : ℕ) (area : ℕ → ℕ → Type 0) (out out′ : List ℕ) : Type 0 where
   pub holds : (f : ℕ → ℕ → ℕ) → ((x y : ℕ) → x < w → area x y → f x y ≡ 255) → Shows w f area out out′
@@ -55,10 +46,6 @@ pub record Whitened (w : ℕ) (area : ℕ → ℕ → Type 0) (out out′ : List
 abbrev pub LevelledArea : Sides → List ℕ → List ℤ → List ℤ → (ℕ → ℕ → Type 0) → ℕ → ℕ → List ℕ → List ℕ → Type 0
 LevelledArea sides gray shear shear-x area y0 y1 = Shows (sides .w) (placeShows sides gray shear shear-x) (InRows y0 y1 area)
 
--- Where the page columns from `from` up to `to` are put.
-abbrev pub Columns : List ℤ → ℕ → ℕ → ℕ → ℕ → Type 0
-Columns shear-x from to x y = (entry shear-x y + from ≤ x) × (x < entry shear-x y + to)
-
 -- Outside the columns from `from` up to `to`.
 abbrev pub Outside : ℕ → ℕ → ℕ → ℕ → Type 0
 Outside from to x y = (x < from) ⊎ (to ≤ x)
@@ -66,7 +53,3 @@ Outside from to x y = (x < from) ⊎ (to ≤ x)
 -- Left and right of the page.
 abbrev pub Margins : Sides → List ℤ → ℕ → ℕ → Type 0
 Margins sides shear-x x y = Outside (entry shear-x y) (entry shear-x y + sides .pw) x y
-
--- Every place.
-abbrev pub All : ℕ → ℕ → Type 0
-All x y = Unit

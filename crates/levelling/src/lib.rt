@@ -4,11 +4,13 @@
 ghost use mathlib.Core.Path.{_≡_};
 ghost use Prim.Native.Nat.{_+_, _*_, _≤_, _<_};
 ghost use lib.ListN.{length};
-ghost use Rattle.shear_runs.specs.Steps.{Together};
-ghost use Rattle.levelling.specs.Steps.{Painted, Sheets, Framed, Ready, Whitened, LevelledArea, InRows, Outside, Columns, Margins, All};
+ghost use Rattle.shear_runs.specs.Steps.{Together, InRows, Columns, All};
+ghost use Rattle.levelling.specs.Steps.{Painted, Sheets, Framed, Ready, Whitened, LevelledArea, Outside, Margins};
+ghost use Rattle.layout.specs.Tables.{entry};
 ghost use Rattle.layout.specs.Level.{columnShows, pageShows, levelled};
 use layout::sides::Sides;
 use layout::tables;
+use shear_runs::bands;
 use shear_runs::columns;
 use shear_runs::columns::Part;
 use shear_runs::raster;
@@ -89,7 +91,7 @@ fn level_part(
     y: usize,
 )
     requires { ⌜ Ready sides (now gray) (now shear) (now «shear_x») (now out) × (Together (now shear) from (part .to) (part .run) × (y < sides .h)) ⌝ }
-    ensures { λ _. ⌜ LevelledArea sides (now (gray .entry)) (now (shear .entry)) (now («shear_x» .entry)) (Columns (now («shear_x» .entry)) from (part .to)) y
+    ensures { λ _. ⌜ LevelledArea sides (now (gray .entry)) (now (shear .entry)) (now («shear_x» .entry)) (Columns (entry (now («shear_x» .entry))) from (part .to)) y
         (y + 1) (now (out .entry)) (now (out .exit)) ⌝ }
 {
     let page = y * sides.w + tables::entry_at(shear_x, y);
@@ -117,7 +119,7 @@ fn level_columns(
     y1: usize,
 )
     requires { ⌜ Ready sides (now gray) (now shear) (now «shear_x») (now out) × (Together (now shear) from (part .to) (part .run) × (y1 ≤ sides .h)) ⌝ }
-    ensures { λ _. ⌜ LevelledArea sides (now (gray .entry)) (now (shear .entry)) (now («shear_x» .entry)) (Columns (now («shear_x» .entry)) from (part .to)) y0 y1
+    ensures { λ _. ⌜ LevelledArea sides (now (gray .entry)) (now (shear .entry)) (now («shear_x» .entry)) (Columns (entry (now («shear_x» .entry))) from (part .to)) y0 y1
         (now (out .entry)) (now (out .exit)) ⌝ }
 {
     let mut y = y0;
@@ -172,15 +174,7 @@ fn level_rows(
     }
 }
 
-// Where a band ends that begins at row y: 16 rows keep what is written in the cache.
-fn band_end(y: usize, h: usize) -> usize
-    requires { ⌜ y < h ⌝ }
-    ensures { λ r. ⌜ (y < r) × (r ≤ h) ⌝ }
-{
-    if h - y <= 16 { h } else { y + 16 }
-}
-
-// The levelled raster, for sides, tables and rasters that pass their questions.
+// The levelled raster, for sides, tables and rasters that pass their questions. Bands of 16 rows keep what is written in the cache.
 pub fn level(sides: Sides, gray: &[u8], shear: &[i32], shear_x: &[i32], out: &mut [u8])
     requires { ⌜ Ready sides (now gray) (now shear) (now «shear_x») (now out) ⌝ }
     ensures { λ _. ⌜ now (out .exit) ≡ levelled sides (now (gray .entry)) (now (shear .entry)) (now («shear_x» .entry)) ⌝ }
@@ -188,7 +182,7 @@ pub fn level(sides: Sides, gray: &[u8], shear: &[i32], shear_x: &[i32], out: &mu
     let h = sides.h;
     let mut y = 0;
     while y < h {
-        let end = band_end(y, h);
+        let end = bands::band_end(y, h, 16);
         level_rows(sides, gray, shear, shear_x, out, y, end);
         y = end;
     }

@@ -1,6 +1,6 @@
 // The stored calls about levelling: the page's sides and the levelled picture's, then the shear tables, the
-// grey raster and up to four numbers, each a list. No table has more than 64 entries, and no raster more
-// than 256 bytes.
+// raster that is given and up to four numbers, each a list. No table has more than 64 entries, and no raster
+// more than 256 bytes.
 use layout::calls;
 use layout::calls::Mapped;
 use layout::calls::MappedRect;
@@ -16,11 +16,11 @@ pub fn page(text: &[u8], at: usize, call: u64) -> usize {
     let given = stored::sides::read(text, at);
     let mut shear = [0i32; 64];
     let mut shear_x = [0i32; 64];
-    let mut gray = [0u8; 256];
+    let mut raster = [0u8; 256];
     let mut numbers = [0u32; 4];
     let s = words::read_signed(text, words::read_word(text, given.next), &mut shear);
     let x = words::read_signed(text, words::read_word(text, s.next), &mut shear_x);
-    let g = words::read_bytes(text, words::read_word(text, x.next), &mut gray);
+    let g = words::read_bytes(text, words::read_word(text, x.next), &mut raster);
     let n = words::read_wholes(text, words::read_word(text, g.next), &mut numbers);
     let columns = s.count;
     let rows = x.count;
@@ -30,24 +30,25 @@ pub fn page(text: &[u8], at: usize, call: u64) -> usize {
         given.sides,
         &shear[..columns],
         &shear_x[..rows],
-        &gray[..pixels],
+        &raster[..pixels],
         &numbers,
     );
     n.next
 }
 
-// The numbers are the room for the raster, a place, or a rectangle. The raster is lent with 7 in it.
+// The numbers are the room for a raster, a place, or a rectangle. A raster is lent with 7 in it.
 fn answer(
     call: u64,
     sides: Sides,
     shear: &[i32],
     shear_x: &[i32],
-    gray: &[u8],
+    raster: &[u8],
     numbers: &[u32; 4],
 ) {
     match call {
-        10 => level_gray(sides, shear, shear_x, gray, numbers[0], &mut [7; 256]),
+        10 => level_gray(sides, shear, shear_x, raster, numbers[0], &mut [7; 256]),
         11 => to_page(sides, shear, shear_x, Levelled(numbers[0], numbers[1])),
+        14 => unlevel(sides, shear, shear_x, raster, numbers[0], &mut [7; 256]),
         _ => {
             let r = Rect {
                 x0: numbers[0],
@@ -72,6 +73,14 @@ fn level_gray(
 ) {
     let n = words::at_most(room as u64, out.len());
     let number = level_gray::level_gray(sides, gray, shear, shear_x, &mut out[..n]);
+    written::word(number as u64);
+    written::bytes(out, n);
+}
+
+// The same of a page raster.
+fn unlevel(sides: Sides, shear: &[i32], shear_x: &[i32], level: &[u8], room: u32, out: &mut [u8]) {
+    let n = words::at_most(room as u64, out.len());
+    let number = unlevel::unlevel(sides, level, shear, shear_x, &mut out[..n]);
     written::word(number as u64);
     written::bytes(out, n);
 }

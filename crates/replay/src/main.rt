@@ -4,7 +4,8 @@
 //
 // What the unchanged Rust answered: the lines of calls 1 to 4 whole; of the others, on an accepted page,
 // the rulings of 5, the tables and the free list of 6, the boxes of 7, the raster, the place and the
-// rectangle of 10 to 12, and in every line of 9 the first word, whether `validate` accepts.
+// rectangle of 10 to 12, the raster that 14 is given, which is levelled from the page that it answers (the
+// padding apart), and in every line of 9 the first word, whether `validate` accepts.
 // What is the driver's own: the number of the first missed question, and what a refused page answers beside
 // it; the closed sets, by a flood fill (the ends and members of 5, 6 and 8, the set numbers of 6 and 8),
 // and the reading order of 8, by a plain sort. The sets that 8 names as grids are those that the Rust finds.
@@ -49,7 +50,7 @@ fn answer(text: &[u8], at: usize) -> usize {
         3 => print(floats::rounded_product(text, next)),
         4 => print(floats::round(text, next)),
         5..=9 => pages::page(text, next, number),
-        10..=12 => levelled::page(text, next, number),
+        10..=12 | 14 => levelled::page(text, next, number),
         _ => text.len(),
     }
 }

@@ -1,3 +1,4 @@
-// Columns that share a shear, and runs of bytes: what levelling goes by.
+// Columns that share a shear, bands of rows, and runs of bytes: what levelling and its inverse go by.
+pub mod bands;
 pub mod columns;
 pub mod raster;

@@ -109,6 +109,9 @@ fn lines_of_other_calls() {
     other("sum", "room levelled 4");
     other("level", "room tables 4");
     other("level", "setting box_min_xh 3ff0000000000000");
+    other("unlevel", "gray 0");
+    other("unlevel", "room levelled 4");
+    other("level", "raster_file scan.pgm");
     other("map", "gray 0");
     other("segments", "room tables 4");
     other("tables", "levelled 4");

@@ -3,13 +3,17 @@ use mathlib.Core.Path.{_∙_}
 use Prim.Native.Nat.{_-_, _≤_}
 use native.Mathlib.Omega.{arith}
 use lib.ListN.{length}
-use Rattle.levelling.specs.Steps.{LevelledArea, Columns}
+use Rattle.layout.specs.Tables.{entry}
+use Rattle.layout.specs.Level.{placeShows}
+use Rattle.shear_runs.specs.Steps.{Columns}
+use Rattle.levelling.specs.Steps.{LevelledArea}
 use Rattle.levelling.proofs.level_rows.Statement.{statement}
 use Rattle.levelling.proofs.level_rows.Tie as tie
-use Rattle.levelling.proofs.Settle.{ready-long, ready-after, ready-framed, columns-none, columns-then, band-whole}
+use Rattle.shear_runs.proofs.Areas.{columns-none, columns-then}
+use Rattle.levelling.proofs.Settle.{ready-long, ready-after, ready-framed, band-whole}
 
 abbrev Inv-loop : tie.InvT-loop
-Inv-loop sides gray shear shear-x out₀ y0 y1 x₀ out x = (x ≤ length shear) × LevelledArea sides gray shear shear-x (Columns shear-x 0 x) y0 y1 out₀ out
+Inv-loop sides gray shear shear-x out₀ y0 y1 x₀ out x = (x ≤ length shear) × LevelledArea sides gray shear shear-x (Columns (entry shear-x) 0 x) y0 y1 out₀ out
 
 abbrev μ-loop : tie.MeasureT-loop
 μ-loop sides gray shear shear-x out₀ y0 y1 x₀ out x = length shear - x
@@ -18,7 +22,7 @@ pad-rows-requires : tie.Need-pad-rows-requires Inv-loop μ-loop
 pad-rows-requires c κs = let pre = c .before .before .before .pre in (ready-framed (pre .0), pre .1)
 
 loop-holds : tie.Need-loop-holds Inv-loop μ-loop
-loop-holds c = let a = c .before .before .before .before .before .before .args in (omega arith, columns-none (a .sides) (a .gray .now) (a .shear .now) (a .shear-x .now) (a .y0) (a .y1) _)
+loop-holds c = let a = c .before .before .before .before .before .before .args in (omega arith, columns-none (a .sides .w) (placeShows (a .sides) (a .gray .now) (a .shear .now) (a .shear-x .now)) (entry (a .shear-x .now)) (a .y0) (a .y1) 0 _)
 
 part-at-requires : tie.Need-part-at-requires Inv-loop μ-loop
 part-at-requires c κs = (c .loop-test .taken, c .before .before .before .before .before .before .before .before .pre .0 .sheared .columns .whole)
@@ -34,7 +38,7 @@ loop-less c = omega (arith, c .before .before .before .before .part-at .ensures 
 loop-again : tie.Need-loop-again Inv-loop μ-loop
 loop-again c =
     let a = c .before .before .before .before .before .before .before .before .before .before .before .before .before .args in
-    (c .before .before .before .before .part-at .ensures .within, columns-then (a .sides) (a .gray .now) (a .shear .now) (a .shear-x .now) (a .y0) (a .y1) (c .before .before .before .before .before .before .loop .x) (c .before .before .before .before .part-at .result .to) (c .before .before .before .before .before .before .loop .inv .1) (c .before .before .level-columns .ensures))
+    (c .before .before .before .before .part-at .ensures .within, columns-then (a .sides .w) (placeShows (a .sides) (a .gray .now) (a .shear .now) (a .shear-x .now)) (entry (a .shear-x .now)) (a .y0) (a .y1) 0 (c .before .before .before .before .before .before .loop .x) (c .before .before .before .before .part-at .result .to) (c .before .before .before .before .before .before .loop .inv .1) (c .before .before .level-columns .ensures))
 
 same-length : tie.Need-same-length Inv-loop μ-loop
 same-length c = c .before .loop .inv .1 .long ∙ c .before .before .before .before .pad-rows .kept .1 .1 .0

@@ -4,7 +4,8 @@ use Prim.Native.Nat.{ℕ, _+_, _-_, _≤_}
 use native.Mathlib.Nat.{le-antisymm}
 use native.Mathlib.Omega.{arith}
 use lib.ListN.{length}
-use Rattle.levelling.specs.Steps.{Whitened, InRows, Margins}
+use Rattle.shear_runs.specs.Steps.{InRows}
+use Rattle.levelling.specs.Steps.{Whitened, Margins}
 use Rattle.levelling.proofs.pad_rows.Statement.{statement}
 use Rattle.levelling.proofs.pad_rows.Tie as tie
 use Rattle.layout.proofs.Places.{small-product, row-within}

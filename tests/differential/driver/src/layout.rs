@@ -10,7 +10,8 @@ use crate::random::Random;
 use crate::rust_layout::layout;
 use crate::tally::Tally;
 
-/// The whole levelled raster, or every lent byte as it was.
+/// The whole levelled raster, or every lent byte as it was. What is levelled comes back from
+/// `unlevel` as the page that it was.
 pub fn level_gray(random: &mut Random, count: u64) -> Tally {
     let mut tally = Tally::default();
     for case in 0..count {
@@ -33,6 +34,13 @@ pub fn level_gray(random: &mut Random, count: u64) -> Tally {
         tally.compare(&words(number, &expected), &words(answer, &out), || {
             format!("{page:?} room {room}")
         });
+        if number == 0 {
+            let mut back: Vec<u8> = page.gray.iter().map(|byte| !byte).collect();
+            let answer = ffi::unlevel(&page.given(), &out, &mut back);
+            tally.compare(&words(0, &page.gray), &words(answer, &back), || {
+                format!("{page:?} back")
+            });
+        }
     }
     tally
 }
@@ -98,7 +106,7 @@ pub fn map_question(page: &LayoutPage, [x0, y0, x1, y1]: [u32; 4]) -> u32 {
 }
 
 /// Questions 1, 3 and 4; `grey` says whether what else question 3 asks holds.
-fn tables_question(page: &LayoutPage, grey: bool) -> u32 {
+pub fn tables_question(page: &LayoutPage, grey: bool) -> u32 {
     let sides = [page.page_width, page.page_height, page.width, page.height];
     if !sides.iter().all(|n| (1..=LARGEST_SIDE).contains(n))
         || page.page_width > page.width
@@ -210,7 +218,7 @@ fn resize<T: Copy + Default>(random: &mut Random, list: &mut Vec<T>) {
 }
 
 /// A length that is not n: one less, one more, none.
-fn beside(random: &mut Random, n: usize) -> usize {
+pub fn beside(random: &mut Random, n: usize) -> usize {
     match random.below(3) {
         0 => n + 1,
         1 if n > 0 => n - 1,
@@ -249,14 +257,14 @@ pub fn rectangle(random: &mut Random, page: &LayoutPage) -> [u32; 4] {
 }
 
 /// The places of a picture, or a few where there would be too many to lend.
-fn lendable(width: usize, height: usize) -> usize {
+pub fn lendable(width: usize, height: usize) -> usize {
     match width.checked_mul(height) {
         Some(places) if places <= 1 << 18 => places,
         _ => 64,
     }
 }
 
-fn words(number: u32, bytes: &[u8]) -> Vec<u64> {
+pub fn words(number: u32, bytes: &[u8]) -> Vec<u64> {
     let bytes = bytes.iter().map(|&b| u64::from(b));
     [u64::from(number)].into_iter().chain(bytes).collect()
 }

@@ -30,5 +30,6 @@ pub mod segments;
 pub mod tables;
 pub mod tally;
 pub mod testing;
+pub mod unlevel;
 pub mod values;
 pub mod whole;

@@ -14,7 +14,7 @@ use differential::random::Random;
 use differential::tally::Tally;
 use differential::{
     boxes, detect, findings, floats, grids, grouping, layout, params, replay, replay_detect,
-    reused, segments, tables,
+    reused, segments, tables, unlevel,
 };
 
 /// One call of the library, with the number of random cases that it is tried on.
@@ -81,9 +81,24 @@ const COMPARISONS: &[Comparison] = &[
         run: layout::level_gray,
     },
     Comparison {
+        name: "unlevel",
+        count: 250_000,
+        run: unlevel::unlevel,
+    },
+    Comparison {
+        name: "unlevel on forms",
+        count: 100,
+        run: unlevel::on_forms,
+    },
+    Comparison {
         name: "to_page",
         count: 400_000,
         run: layout::to_page,
+    },
+    Comparison {
+        name: "to_page of pixels",
+        count: 20_000,
+        run: unlevel::to_page_of_pixels,
     },
     Comparison {
         name: "rect_to_page",

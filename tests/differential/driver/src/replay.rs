@@ -83,6 +83,7 @@ pub fn write(dir: &Path) -> io::Result<usize> {
     levelling::add_level_gray(&mut sample, random);
     levelling::add_to_page(&mut sample, random);
     levelling::add_rect_to_page(&mut sample, random);
+    levelling::add_unlevel(&mut sample, random);
     sample.write(dir)
 }
 

@@ -1,5 +1,6 @@
-//! The stored calls of `level_gray`, `to_page` and `rect_to_page`: one small page with every limit of
-//! the questions and what lies past it, one change at a time, then pages as the comparisons draw them.
+//! The stored calls of `level_gray`, `to_page`, `rect_to_page` and `unlevel`: one small page with every
+//! limit of the questions and what lies past it, one change at a time, then pages as the comparisons draw
+//! them.
 
 use pagetriage::pixel::layout::Rect;
 
@@ -10,6 +11,7 @@ use crate::random::Random;
 use crate::replay::Sample;
 use crate::replay_pages::Line;
 use crate::rust_layout::layout;
+use crate::unlevel::{Archived, archived, unlevel_question};
 
 /// How many drawn pages each call has; every other one is spoilt.
 const DRAWN: u64 = 32;
@@ -21,7 +23,10 @@ const PIXELS: usize = 128;
 /// The places of the base page's picture.
 const ROOM: usize = 20;
 
-/// What every byte of the levelled raster is before the call.
+/// The pixels of the base page.
+const PAGE: usize = 6;
+
+/// What every byte of a raster is before the call.
 const LENT: u8 = 7;
 
 /// The number, then the raster: the Rust's, or as it was lent.
@@ -102,6 +107,49 @@ pub fn add_rect_to_page(sample: &mut Sample, random: &mut Random) {
         answer.wholes(&area);
         sample.add_line(&call(12, &page, &[], &[x0, y0, x1, y1]), &answer.0);
     }
+}
+
+/// The number, then the page: the one that the Rust levelled to the raster that is given, or as it was
+/// lent.
+pub fn add_unlevel(sample: &mut Sample, random: &mut Random) {
+    let mut cases: Vec<(LayoutPage, Archived, usize)> = Vec::new();
+    for page in at_limits().into_iter().chain(drawn(random)) {
+        let mut given = archived(random, &page);
+        given.raster.truncate(PIXELS); // so that a larger one misses question 14
+        let room = match page.page_width.saturating_mul(page.page_height) {
+            room if room <= PIXELS => room,
+            _ => PAGE,
+        };
+        cases.push((page, given, room));
+    }
+    for page in several() {
+        for (length, room) in [(ROOM, PAGE), (ROOM - 1, PAGE), (ROOM - 1, PAGE + 1)] {
+            cases.push((page.clone(), levelled_base(length), room));
+        }
+    }
+    for length in [ROOM - 1, ROOM, ROOM + 1] {
+        for room in [PAGE - 1, PAGE, PAGE + 1] {
+            cases.push((base(), levelled_base(length), room));
+        }
+    }
+    for (page, Archived { raster, gray }, room) in cases {
+        let number = unlevel_question(&page, raster.len(), room);
+        let mut answer = Line::default();
+        answer.word(number.into());
+        answer.wholes(&wholes(&match number {
+            0 => gray,
+            _ => vec![LENT; room],
+        }));
+        sample.add_line(&call(14, &page, &raster, &[room as u32]), &answer.0);
+    }
+}
+
+/// The base page, levelled, in so many bytes.
+fn levelled_base(length: usize) -> Archived {
+    let gray = base().gray;
+    let mut raster = layout(&base()).level_gray(&gray);
+    raster.resize(length, 255);
+    Archived { raster, gray }
 }
 
 /// Rectangles of the base page: the whole, its corners, rows and columns, then one past each edge and
@@ -242,15 +290,15 @@ fn with_room(page: LayoutPage) -> (LayoutPage, usize) {
     }
 }
 
-/// The number of a call, the sides, the tables in two's complement, the grey raster and its numbers.
-fn call(number: u64, page: &LayoutPage, gray: &[u8], numbers: &[u32]) -> String {
+/// The number of a call, the sides, the tables in two's complement, the raster and its numbers.
+fn call(number: u64, page: &LayoutPage, raster: &[u8], numbers: &[u32]) -> String {
     let sides = [page.page_width, page.page_height, page.width, page.height];
     let mut line = Line(format!("{number:x}"));
     sides.iter().for_each(|&n| line.word(n as u64));
     for table in [&page.shear, &page.shear_x] {
         line.list(&table.iter().map(|&x| x as u32).collect::<Vec<_>>());
     }
-    line.list(&wholes(gray));
+    line.list(&wholes(raster));
     line.list(numbers);
     line.0
 }

@@ -56,8 +56,8 @@ array-share-prefix-shear-x c = search needs
 slice-aggregate-answer-2 : tie.Need-slice-aggregate-answer-2
 slice-aggregate-answer-2 c = sym (length-take-le _ _ (c .before .before .before .before .before .before .before .before .before .before .before .read-signed2 .ensures))
 
-array-share-prefix-gray : tie.Need-array-share-prefix-gray
-array-share-prefix-gray c = search needs
+array-share-prefix-raster : tie.Need-array-share-prefix-raster
+array-share-prefix-raster c = search needs
 
 slice-aggregate-answer-3 : tie.Need-slice-aggregate-answer-3
 slice-aggregate-answer-3 c = sym (length-take-le _ _ (c .before .before .before .before .before .before .before .before .read-bytes .ensures))
@@ -69,4 +69,4 @@ returns : tie.Need-returns
 returns c = search needs
 
 pub page-spec : {M : Type 1} → statement M
-page-spec = tie.close (tie.spec read-requires read-word-requires slice-aggregate-read-signed read-signed-requires read-word-requires-2 slice-aggregate-read-signed-2 read-signed-requires-2 read-word-requires-3 slice-aggregate-read-bytes read-bytes-requires read-word-requires-4 slice-aggregate-read-wholes read-wholes-requires array-share-prefix-shear slice-aggregate-answer array-share-prefix-shear-x slice-aggregate-answer-2 array-share-prefix-gray slice-aggregate-answer-3 answer-requires returns)
+page-spec = tie.close (tie.spec read-requires read-word-requires slice-aggregate-read-signed read-signed-requires read-word-requires-2 slice-aggregate-read-signed-2 read-signed-requires-2 read-word-requires-3 slice-aggregate-read-bytes read-bytes-requires read-word-requires-4 slice-aggregate-read-wholes read-wholes-requires array-share-prefix-shear slice-aggregate-answer array-share-prefix-shear-x slice-aggregate-answer-2 array-share-prefix-raster slice-aggregate-answer-3 answer-requires returns)

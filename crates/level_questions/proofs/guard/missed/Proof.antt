@@ -1,14 +1,13 @@
--- `level_gray::level_question` meets its contract: each return is the first "no".
+-- `level_questions::guard::missed` meets its contract: each return is the first "no".
 use mathlib.Core.Path.{_≡_, sym, ap₂, _∙_}
 use mathlib.Core.Bool.{true, _&&_}
 use native.Mathlib.Omega.{arith}
-use lib.ListN.{length}
 use borrow.Author.Needs.{needs}
 use borrow.Author.Tests.{not-true, not-false}
 use Rattle.layout.specs.Sides.{sidesFit, rasterFits}
 use Rattle.layout.specs.Tables.{shearsLong}
-use Rattle.level_gray.proofs.level_question.Statement.{statement}
-use Rattle.level_gray.proofs.level_question.Tie as tie
+use Rattle.level_questions.proofs.guard.missed.Statement.{statement}
+use Rattle.level_questions.proofs.guard.missed.Tie as tie
 use Rattle.layout.proofs.Answers.{SidesAre, sides-yes}
 
 sides-fit-requires : tie.Need-sides-fit-requires
@@ -18,11 +17,11 @@ returns : tie.Need-returns
 returns c = simp (sym (c .before .sides-fit .ensures) ∙ not-true _ (c .if1 .taken))
 
 -- the answers on the way
-one : (c : tie.Else1) → sidesFit (c .before .before .before .args .sides) ≡ true
+one : (c : tie.Else1) → sidesFit (c .before .before .args .sides) ≡ true
 one c = sym (c .before .sides-fit .ensures) ∙ not-false _ (c .if1 .left)
 
-sides : (c : tie.Else1) → SidesAre (c .before .before .before .args .sides)
-sides c = sides-yes (c .before .before .before .args .sides) (one c)
+sides : (c : tie.Else1) → SidesAre (c .before .before .args .sides)
+sides c = sides-yes (c .before .before .args .sides) (one c)
 
 raster-fits-requires : tie.Need-raster-fits-requires
 raster-fits-requires c κs = let s = sides c in (omega (arith, s .page-wide, s .w-most), omega (arith, s .page-high, s .h-most))
@@ -30,7 +29,7 @@ raster-fits-requires c κs = let s = sides c in (omega (arith, s .page-wide, s .
 tables-long-requires : tie.Need-tables-long-requires
 tables-long-requires c κs = search needs
 
-three : (c : tie.After-tables-long) → let a = c .before .before .before .before .before .args in c .before .raster-fits .result && c .tables-long .result ≡ rasterFits (a .sides .pw) (a .sides .ph) (length (a .gray .now)) && shearsLong (a .sides) (a .shear .now) (a .shear-x .now)
+three : (c : tie.After-tables-long) → let a = c .before .before .before .before .args in c .before .raster-fits .result && c .tables-long .result ≡ rasterFits (a .sides .pw) (a .sides .ph) (a .page) && shearsLong (a .sides) (a .shear .now) (a .shear-x .now)
 three c = ap₂ _&&_ (c .before .raster-fits .ensures) (c .tables-long .ensures)
 
 tables-fit-requires : tie.Need-tables-fit-requires
@@ -51,5 +50,5 @@ returns-4 c = simp (one (c .before .before .before .before .before .before .befo
 returns-5 : tie.Need-returns-5
 returns-5 c = simp (one (c .before .before .before .before .before .before .before), sym (three (c .before .before .before .before .before)) ∙ not-false _ (c .before .before .if2 .left), sym (c .before .before .before .before .tables-fit .ensures) ∙ not-false _ (c .before .if3 .left), sym (c .before .before .before .raster-fits2 .ensures) ∙ not-false _ (c .if4 .left))
 
-pub level-question-spec : {M : Type 1} → statement M
-level-question-spec = tie.close (tie.spec sides-fit-requires returns raster-fits-requires tables-long-requires tables-fit-requires raster-fits-requires-2 returns-2 returns-3 returns-4 returns-5)
+pub missed-spec : {M : Type 1} → statement M
+missed-spec = tie.close (tie.spec sides-fit-requires returns raster-fits-requires tables-long-requires tables-fit-requires raster-fits-requires-2 returns-2 returns-3 returns-4 returns-5)

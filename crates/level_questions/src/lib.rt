@@ -1,0 +1,2 @@
+// The questions that `level_gray` and `unlevel` put.
+pub mod guard;

@@ -1,0 +1,2 @@
+-- The laws that `unlevelling`'s proofs cite.
+pub mod Places
