@@ -11,7 +11,7 @@ use lib.Seq.{length-take-le}
 use Rattle.layout.specs.declared.sides.Sides.{Sides}
 use Rattle.layout.specs.Tables.{entry}
 use Rattle.shear_runs.specs.Steps.{Together, Shows, InRows, Columns, All}
-use Rattle.levelling.specs.Steps.{Painted, Sheets, Framed, Ready, Whitened, LevelledArea, Outside, Margins}
+use Rattle.levelling.specs.Steps.{Painted, Sheets, Ready, Whitened, LevelledArea, Outside, Margins}
 use Rattle.layout.specs.Level.{columnShows, pageShows, placeShows}
 use Rattle.layout.proofs.Places.{le-or-lt, row-within}
 use Rattle.layout.proofs.Shows.{place-on, place-beside}
@@ -24,11 +24,6 @@ ready-long b l r = record { sheared = r .sheared; grey-long = r .grey-long; out-
 
 pub ready-after : {sides : Sides} {gray : List ℕ} {shear shear-x : List ℤ} {f : ℕ → ℕ → ℕ} {area : ℕ → ℕ → Type 0} {a b : List ℕ} → Ready sides gray shear shear-x a → Shows (sides .w) f area a b → Ready sides gray shear shear-x b
 ready-after {b} r h = ready-long b (h .long) r
-
-pub ready-framed : {sides : Sides} {gray : List ℕ} {shear shear-x : List ℤ} {out : List ℕ} → Ready sides gray shear shear-x out → Framed sides shear-x out
-ready-framed r =
-    let s = r .sheared in
-    record { page-wide = s .page-wide; wide = s .wide; high = s .high; rows = s .rows; out-long = r .out-long }
 
 -- a run shows each of its columns
 pub run-painted : (sides : Sides) (gray : List ℕ) (shear : List ℤ) {from y down : ℕ} {out out′ : List ℕ} → down ≡ entry shear from

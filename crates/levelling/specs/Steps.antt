@@ -1,5 +1,5 @@
 -- What the steps of levelling promise each other, with `shear_runs`' steps.
-use Prim.Native.Nat.{ℕ, _-_, _≤_, _<_, _+_, _*_}
+use Prim.Native.Nat.{ℕ, _≤_, _<_, _+_, _*_}
 use mathlib.Core.Path.{_≡_}
 use mathlib.Core.Logic.{_⊎_}
 use mathlib.Core.List.{List}
@@ -8,7 +8,7 @@ use lib.ListN.{length, getD}
 use Rattle.layout.specs.declared.sides.Sides.{Sides}
 use Rattle.layout.specs.Tables.{entry}
 use Rattle.layout.specs.Level.{placeShows}
-use Rattle.layout.specs.Steps.{NotBelow, Table, Sheared}
+use Rattle.layout.specs.Steps.{NotBelow, Sheared}
 use Rattle.shear_runs.specs.Steps.{Shows, InRows}
 
 -- A part of row y that begins at column `from` shows f.
@@ -24,15 +24,7 @@ pub record Sheets (sides : Sides) (gray : List ℕ) (shear : List ℤ) : Type 0 
   pub columns : length shear ≡ sides .pw
   pub whole : NotBelow shear
 
--- What the margins' steps are given: rows of at most 8,192 columns whose shifts keep the page inside, and a raster that fits them.
-pub record Framed (sides : Sides) (shear-x : List ℤ) (out : List ℕ) : Type 0 where
-  pub page-wide : sides .pw ≤ sides .w
-  pub wide : sides .w ≤ 8192
-  pub high : sides .h ≤ 8192
-  pub rows : Table (sides .h) (sides .w - sides .pw) shear-x
-  pub out-long : length out ≡ sides .w * sides .h
-
--- What every other step is given: sides and tables that pass their questions, a grey raster and a levelled raster that fit them.
+-- What the steps but those of the margins are given: sides and tables that pass their questions, a grey raster and a levelled raster that fit them.
 pub record Ready (sides : Sides) (gray : List ℕ) (shear shear-x : List ℤ) (out : List ℕ) : Type 0 where
   pub sheared : Sheared sides shear shear-x
   pub grey-long : length gray ≡ sides .pw * sides .ph

@@ -4,8 +4,8 @@
 ghost use mathlib.Core.Path.{_≡_};
 ghost use Prim.Native.Nat.{_+_, _*_, _≤_, _<_};
 ghost use lib.ListN.{length};
-ghost use Rattle.shear_runs.specs.Steps.{Together, InRows, Columns, All};
-ghost use Rattle.levelling.specs.Steps.{Painted, Sheets, Framed, Ready, Whitened, LevelledArea, Outside, Margins};
+ghost use Rattle.shear_runs.specs.Steps.{Together, Frame, InRows, Columns, All};
+ghost use Rattle.levelling.specs.Steps.{Painted, Sheets, Ready, Whitened, LevelledArea, Outside, Margins};
 ghost use Rattle.layout.specs.Tables.{entry};
 ghost use Rattle.layout.specs.Level.{columnShows, pageShows, levelled};
 use layout::sides::Sides;
@@ -141,7 +141,7 @@ fn pad_row(w: usize, out: &mut [u8], y: usize, from: usize, to: usize)
 
 // White paper left and right of the page, in the rows from y0 up to y1.
 fn pad_rows(sides: Sides, shear_x: &[i32], out: &mut [u8], y0: usize, y1: usize)
-    requires { ⌜ Framed sides (now «shear_x») (now out) × ((y0 ≤ y1) × (y1 ≤ sides .h)) ⌝ }
+    requires { ⌜ Frame sides (now «shear_x») × ((length (now out) ≡ sides .w * sides .h) × ((y0 ≤ y1) × (y1 ≤ sides .h))) ⌝ }
     ensures { λ _. ⌜ Whitened (sides .w) (InRows y0 y1 (Margins sides (now («shear_x» .entry)))) (now (out .entry)) (now (out .exit)) ⌝ }
 {
     let mut y = y0;

@@ -14,12 +14,7 @@ use Rattle.layout.proofs.Levelling.{reach-within}
 use Rattle.shear_runs.specs.Steps.{Run}
 use Rattle.shear_runs.proofs.Parts.{put}
 use Rattle.shear_runs.proofs.Areas.{holds-in, part-shows, place-shows}
-use Rattle.unlevelling.specs.Steps.{Frame, Archived, PageLong, BackArea, PageColumns}
-
-pub archived-frame : {sides : Sides} {level : List ℕ} {shear shear-x : List ℤ} → Archived sides level shear shear-x → Frame sides shear-x
-archived-frame given =
-    let s = given .sheared in
-    record { page-wide = s .page-wide; wide = s .wide; high = s .high; rows = s .rows }
+use Rattle.unlevelling.specs.Steps.{Archived, PageLong, BackArea, PageColumns}
 
 module _ (sides : Sides) (level : List ℕ) (shear shear-x : List ℤ) (given : Archived sides level shear shear-x) where
   abbrev place : ℕ → ℕ → ℕ

@@ -1,22 +1,15 @@
 -- What the steps of the inverse of levelling promise each other, with `shear_runs`' steps.
-use Prim.Native.Nat.{ℕ, _-_, _*_, _≤_}
+use Prim.Native.Nat.{ℕ, _*_}
 use mathlib.Core.Path.{_≡_}
 use mathlib.Core.List.{List}
 use lib.IntN.{ℤ}
 use lib.ListN.{length}
 use Rattle.layout.specs.declared.sides.Sides.{Sides}
 use Rattle.layout.specs.Level.{pixelIn}
-use Rattle.layout.specs.Steps.{Table, Sheared}
+use Rattle.layout.specs.Steps.{Sheared}
 use Rattle.shear_runs.specs.Steps.{Shows, InRows, Columns}
 
--- A levelled picture of at most 8,192 square, and a table of its rows that keeps the page inside.
-pub record Frame (sides : Sides) (shear-x : List ℤ) : Type 0 where
-  pub page-wide : sides .pw ≤ sides .w
-  pub wide : sides .w ≤ 8192
-  pub high : sides .h ≤ 8192
-  pub rows : Table (sides .h) (sides .w - sides .pw) shear-x
-
--- What every other step is given: sides and tables that pass their questions, and a levelled raster that fits them.
+-- What every step but `place_of` is given: sides and tables that pass their questions, and a levelled raster that fits them.
 pub record Archived (sides : Sides) (level : List ℕ) (shear shear-x : List ℤ) : Type 0 where
   pub sheared : Sheared sides shear shear-x
   pub level-long : length level ≡ sides .w * sides .h

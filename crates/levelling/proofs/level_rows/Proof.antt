@@ -9,8 +9,9 @@ use Rattle.shear_runs.specs.Steps.{Columns}
 use Rattle.levelling.specs.Steps.{LevelledArea}
 use Rattle.levelling.proofs.level_rows.Statement.{statement}
 use Rattle.levelling.proofs.level_rows.Tie as tie
+use Rattle.shear_runs.proofs.Runs.{sheared-frame}
 use Rattle.shear_runs.proofs.Areas.{columns-none, columns-then}
-use Rattle.levelling.proofs.Settle.{ready-long, ready-after, ready-framed, band-whole}
+use Rattle.levelling.proofs.Settle.{ready-long, ready-after, band-whole}
 
 abbrev Inv-loop : tie.InvT-loop
 Inv-loop sides gray shear shear-x out₀ y0 y1 x₀ out x = (x ≤ length shear) × LevelledArea sides gray shear shear-x (Columns (entry shear-x) 0 x) y0 y1 out₀ out
@@ -19,7 +20,7 @@ abbrev μ-loop : tie.MeasureT-loop
 μ-loop sides gray shear shear-x out₀ y0 y1 x₀ out x = length shear - x
 
 pad-rows-requires : tie.Need-pad-rows-requires Inv-loop μ-loop
-pad-rows-requires c κs = let pre = c .before .before .before .pre in (ready-framed (pre .0), pre .1)
+pad-rows-requires c κs = let pre = c .before .before .before .pre in (sheared-frame (pre .0 .sheared), (pre .0 .out-long, pre .1))
 
 loop-holds : tie.Need-loop-holds Inv-loop μ-loop
 loop-holds c = let a = c .before .before .before .before .before .before .args in (omega arith, columns-none (a .sides .w) (placeShows (a .sides) (a .gray .now) (a .shear .now) (a .shear-x .now)) (entry (a .shear-x .now)) (a .y0) (a .y1) 0 _)

@@ -20,19 +20,19 @@ abbrev μ-loop : tie.MeasureT-loop
 loop-holds : tie.Need-loop-holds Inv-loop μ-loop
 loop-holds c =
     let a = c .before .args in
-    ((omega arith, c .before .pre .1 .0), (refl, white-none (a .sides .w) (Margins (a .sides) (a .shear-x .now)) (a .y0) (a .out .now)))
+    ((omega arith, c .before .pre .1 .1 .0), (refl, white-none (a .sides .w) (Margins (a .sides) (a .shear-x .now)) (a .y0) (a .out .now)))
 
 entry-at-requires : tie.Need-entry-at-requires Inv-loop μ-loop
 entry-at-requires c κs =
     let pre = c .before .before .before .pre in
-    (omega (arith, pre .0 .rows .long, pre .1 .1), pre .0 .rows .whole)
+    (omega (arith, pre .0 .rows .long, pre .1 .1 .1), pre .0 .rows .whole)
 
 -- the page lies inside the row
 in-row : (c : tie.After-struct-known Inv-loop μ-loop) → let a = c .before .before .before .before .before .before .args in c .before .before .entry-at .result + a .sides .pw ≤ a .sides .w
 in-row c =
     let start = c .before .before .before .before .before .before in
     let y = c .before .before .before .before .loop .y in
-    omega (arith, c .before .before .entry-at .ensures, start .pre .0 .rows .most y (omega (arith, start .pre .1 .1, c .before .before .before .loop-test .taken)), start .pre .0 .page-wide)
+    omega (arith, c .before .before .entry-at .ensures, start .pre .0 .rows .most y (omega (arith, start .pre .1 .1 .1, c .before .before .before .loop-test .taken)), start .pre .0 .page-wide)
 
 add-pad-row : tie.Need-add-pad-row Inv-loop μ-loop
 add-pad-row c = omega (arith, in-row c, c .before .before .before .before .before .before .pre .0 .wide)
@@ -43,8 +43,8 @@ pad-row-requires c κs =
     let at-loop = c .before .before .before .before in
     let framed = start .pre .0 in
     let a = start .args in
-    let long = at-loop .loop .inv .1 .0 ∙ framed .out-long in
-    ((omega arith, in-row c), (omega (arith, long, row-within (a .sides .w) (a .sides .h) {y = at-loop .loop .y} (omega (arith, start .pre .1 .1, c .before .before .before .loop-test .taken))), omega (arith, long, small-product (framed .wide) (framed .high))))
+    let long = at-loop .loop .inv .1 .0 ∙ start .pre .1 .0 in
+    ((omega arith, in-row c), (omega (arith, long, row-within (a .sides .w) (a .sides .h) {y = at-loop .loop .y} (omega (arith, start .pre .1 .1 .1, c .before .before .before .loop-test .taken))), omega (arith, long, small-product (framed .wide) (framed .high))))
 
 add-y : tie.Need-add-y Inv-loop μ-loop
 add-y c = omega (arith, c .before .before .before .before .before .before .loop-test .taken)

@@ -5,9 +5,10 @@ use native.Mathlib.Omega.{arith}
 use lib.ListN.{length}
 use borrow.Author.Needs.{needs}
 use Rattle.layout.specs.Level.{levelRow, levelColumn, pixelIn}
+use Rattle.shear_runs.proofs.Runs.{sheared-frame}
 use Rattle.shear_runs.proofs.Areas.{rows-none, rows-then, rows-fewer}
 use Rattle.unlevelling.specs.Steps.{PageLong, BackArea, PageColumns}
-use Rattle.unlevelling.proofs.Places.{archived-frame, place-below, row-below, place-within, page-row, run-on-page, run-within, run-shows}
+use Rattle.unlevelling.proofs.Places.{place-below, row-below, place-within, page-row, run-on-page, run-within, run-shows}
 use Rattle.unlevelling.proofs.unlevel_run.Statement.{statement}
 use Rattle.unlevelling.proofs.unlevel_run.Tie as tie
 
@@ -49,7 +50,7 @@ place-of-requires : tie.Need-place-of-requires Inv-loop μ-loop
 place-of-requires c κs =
     let a = start-of c .args in
     let pre = start-of c .pre in
-    (archived-frame (pre .0), (columns c .1 .0, row-below (a .sides) (a .level .now) (a .shear .now) (a .shear-x .now) (pre .0) (a .from) (c .before .loop .y) (c .before .before .entry-at .result) (c .before .before .entry-at .ensures) (columns c .1 .0) (in-page c .0)))
+    (sheared-frame (pre .0 .sheared), (columns c .1 .0, row-below (a .sides) (a .level .now) (a .shear .now) (a .shear-x .now) (pre .0) (a .from) (c .before .loop .y) (c .before .before .entry-at .result) (c .before .before .entry-at .ensures) (columns c .1 .0) (in-page c .0)))
 
 start-is : (c : tie.After-place-of Inv-loop μ-loop) → let a = start-of (c .before) .args in let y = c .before .before .loop .y in c .place-of .result ≡ levelRow (a .shear .now) (a .from) y * a .sides .w + levelColumn (a .shear .now) (a .shear-x .now) (a .from) y
 start-is c =
