@@ -1,4 +1,6 @@
 // Boxes: which touch, and the closed sets of those that do.
+#![tactic(auto)]
+
 mod sweep;
 
 ghost use Rattle.std.specs.Prelude.{◌≡◌, ◌<◌, ◌≤◌, ◌^◌, length, drop};

@@ -1,4 +1,6 @@
 // The stages of boxes and grids over bundles of lent lists: each lends its lists to the core that does the work.
+#![tactic(auto)]
+
 ghost use Rattle.core.specs.Prelude.{◌*◌, ◌≤◌, length, take};
 ghost use Rattle.params.specs.Steps.{SettingsPassed};
 ghost use Rattle.params.specs.Limits.{align_limit};

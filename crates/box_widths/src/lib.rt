@@ -1,4 +1,6 @@
 // Which boxes of one column or row touch: those of similar widths.
+#![tactic(auto)]
+
 ghost use Rattle.std.specs.Prelude.{◌≡◌, true, ◌<◌};
 ghost use Rattle.rects.specs.Rects.{width_of, count, rect_at, distance};
 ghost use Rattle.rects.specs.Steps.{Inside};

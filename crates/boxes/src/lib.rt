@@ -1,4 +1,6 @@
 // Hollow squares with four straight edges among the glyph boxes of a page.
+#![tactic(auto)]
+
 ghost use Rattle.boxes.specs.Call.{Boxes};
 
 mod guard;

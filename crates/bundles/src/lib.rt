@@ -1,4 +1,6 @@
 // Arrays of lent lists, as `detect` takes them: each list goes into the array as it is.
+#![tactic(auto)]
+
 ghost use Rattle.std.specs.Prelude.{◌≡◌, ◌∷◌, []};
 
 pub fn one_of_bytes<'a>(a: &'a mut [u8]) -> [&'a mut [u8]; 1]

@@ -1,4 +1,6 @@
 // The contrast of one ruling: the level of the paper beside it less the mean of the darkest pixels across it.
+#![tactic(auto)]
+
 ghost use Rattle.paper.specs.Steps.{OnPicture};
 ghost use Rattle.contrast.specs.Steps.{Contrasted};
 

@@ -1,4 +1,6 @@
 // The page as one call: the questions, then what is on it, then its findings.
+#![tactic(auto)]
+
 ghost use Rattle.std.specs.Prelude.{map};
 ghost use Rattle.page.specs.Lent.{list_at};
 ghost use Rattle.page.specs.Call.{Detect};

@@ -1,2 +1,4 @@
 // The lists of findings: a finding stored at its place.
+#![tactic(auto)]
+
 pub mod put;

@@ -1,4 +1,6 @@
 // The findings of the folds: which faint rulings are folds, their keys, and their findings.
+#![tactic(auto)]
+
 ghost use Rattle.std.specs.Prelude.{◌≡◌, map, ◌+◌, ◌*◌, ◌<◌, ◌≤◌, length, get_or};
 ghost use Rattle.std.proofs.lemmas.List.Edits.{sets};
 ghost use Rattle.rects.specs.Rects.{rect_at};

@@ -1,4 +1,6 @@
 // The finding of the free rules, one if at least min_free_rules are free.
+#![tactic(auto)]
+
 ghost use Rattle.std.specs.Prelude.{◌≡◌, map, ◌+◌, ◌≤◌, ◌<◌, leb, length};
 ghost use Rattle.lists.specs.Lists.{written};
 ghost use Rattle.finding_lists.specs.Steps.{Wrote, RanksGiven};

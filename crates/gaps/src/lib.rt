@@ -1,4 +1,6 @@
 // Numbers within a gap of each other: a caller of `sets` that tries all pairs.
+#![tactic(auto)]
+
 ghost use Rattle.std.specs.Prelude.{◌≡◌, ◌+◌, ◌<◌, length};
 ghost use Rattle.sets.specs.Closed.{Below};
 ghost use Rattle.sets.specs.Steps.{Joins, Seen, Room};

@@ -1,4 +1,6 @@
 // The tests on one glyph box: is it a hollow square with four straight edges?
+#![tactic(auto)]
+
 mod edges;
 pub mod found;
 mod frame;

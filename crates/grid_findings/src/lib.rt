@@ -1,4 +1,6 @@
 // The findings of the grids: sets of boxes, read from the lists of a listing by their numbers.
+#![tactic(auto)]
+
 ghost use Rattle.std.specs.Prelude.{◌≡◌, map, ◌+◌, ◌<◌, ◌≤◌, length, get_or};
 ghost use Rattle.std.proofs.lemmas.List.Edits.{sets};
 ghost use Rattle.sets.specs.Listing.{members_of};

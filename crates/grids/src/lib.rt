@@ -1,4 +1,6 @@
 // Grids: connected sets of boxes that stand in rows or columns, with enough boxes; and the reading order of each set.
+#![tactic(auto)]
+
 pub mod core;
 mod guard;
 mod minimum;

@@ -1,5 +1,7 @@
 // Columns four at a time: a tall rectangle is read row by row in bands, and a band of which no column is over the limit is passed over. No
 // count is kept: of a column over the limit only the place is.
+#![tactic(auto)]
+
 ghost use Rattle.std.specs.Prelude.{◌≡◌, true, cond, ◌+◌, ◌*◌, ◌≤◌, ◌<◌, length};
 ghost use Rattle.rects.specs.Rects.{width_of};
 ghost use Rattle.ink.specs.Ink.{ink_at};

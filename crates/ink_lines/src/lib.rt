@@ -1,4 +1,6 @@
 // The lines of a rectangle, its rows or its columns, as `rows` says: the first and the last over a limit, and the longest run of lines with ink.
+#![tactic(auto)]
+
 ghost use Rattle.std.specs.Prelude.{◌≡◌, cond, false, ℕ, suc, ◌+◌, ◌^◌, ◌≤◌, ◌<◌, ltb};
 ghost use Rattle.ink.specs.Ink.{ink_at};
 ghost use Rattle.ink.specs.Steps.{lines_of, line_ink, Readable};

@@ -1,2 +1,4 @@
 // The ends of rulings that others join.
+#![tactic(auto)]
+
 pub mod ends;

@@ -1,6 +1,8 @@
 // The exported calls, a module each, named by its call; the float steps stand together. Each is thin:
 // it has the contract of the function that it calls, and no `requires`, so nothing has to be vetted
 // before a call. include/lanegravel.h declares them for C.
+#![tactic(auto)]
+
 mod box_grids_call;
 mod boxes_call;
 mod detect_call;

@@ -1,4 +1,6 @@
 // `level_gray`: a guard computes the number of the first missed question, and a core does the work.
+#![tactic(auto)]
+
 ghost use Rattle.level_gray.specs.Call.{LevelGray};
 
 use layout::sides::Sides;

@@ -1,2 +1,4 @@
 // The questions that `level_gray` and `unlevel` put.
+#![tactic(auto)]
+
 pub mod guard;

@@ -1,6 +1,8 @@
 // Levelling: the page as its shear tables straighten it. It goes into the levelled raster by bands of rows; in a band, by runs of
 // columns that share a shear, since a run of a levelled row is a run of a page row; and where runs are too short for that, pixel
 // by pixel.
+#![tactic(auto)]
+
 ghost use Rattle.std.specs.Prelude.{◌≡◌, ◌+◌, ◌*◌, ◌≤◌, ◌<◌, length};
 ghost use Rattle.shear_runs.specs.Steps.{Together, Frame, InRows, Columns, All};
 ghost use Rattle.levelling.specs.Steps.{Painted, Sheets, Ready, Whitened, LevelledArea, Outside, Margins};

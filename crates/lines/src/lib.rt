@@ -1,4 +1,6 @@
 // The lines of positions: in sorted order a new line begins where a position exceeds the previous one by more than a limit.
+#![tactic(auto)]
+
 ghost use Rattle.std.specs.Prelude.{◌≡◌, cond, suc, ◌+◌, ◌<◌, ◌^◌, length, get_or};
 ghost use Rattle.lines.specs.Lines.{sorted_positions, exceeds};
 ghost use Rattle.lines.specs.Steps.{Room, Ordered, Lined, Numbered};

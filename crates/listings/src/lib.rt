@@ -1,4 +1,6 @@
 // Listing of closed sets, for any touching rule, and the members of one set of a listing.
+#![tactic(auto)]
+
 ghost use Rattle.std.specs.Prelude.{◌≡◌, List, ℕ, ◌≤◌, ◌<◌, length};
 ghost use Rattle.sets.specs.Listing.{start_of, members_of};
 ghost use Rattle.sets.specs.Steps.{Parents, Listing, Flat, Unthreaded, Threaded, Rising, Trail, Fitting, Appended, Gathered};

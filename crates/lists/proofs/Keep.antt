@@ -64,14 +64,17 @@ kept_in q (x ∷ xs) i m =
     ⊎_elim (λ (h : (i ≡ x) × (q x ≡ true)). (Memᴰ.head h.0, ap q h.0 ∙ h.1))
     (λ (h : In (keep q xs) i). let r = kept_in q xs i h in (Memᴰ.tail r.0, r.1)) (keep_cases q x xs (q x) refl i m)
 
-pub in_kept : (q : ℕ → Bool) (s : List ℕ) (i : ℕ) → In s i → q i ≡ true → In (keep q s) i
-in_kept q s i (Memᴰ.head {x} {xs} e) t =
+kept_of : (q : ℕ → Bool) (i : ℕ) (s : List ℕ) → In s i → q i ≡ true → In (keep q s) i
+kept_of q i s (Memᴰ.head {x} {xs} e) t =
     let f : q x ≡ true = ap q (sym e) ∙ t in rw f (Memᴰ.head e)
-in_kept q s i (Memᴰ.tail {x} {xs} m) t = go (in_kept q xs i m t) (q x)
+kept_of q i s (Memᴰ.tail {x} {xs} m) t = go (kept_of q i xs m t) (q x)
   where
     go : In (keep q xs) i → (b : Bool) → In (cond b (x ∷ keep q xs) (keep q xs)) i
     go h true = Memᴰ.tail h
     go h false = h
+
+pub in_kept : (q : ℕ → Bool) (s : List ℕ) (i : ℕ) → In s i → q i ≡ true → In (keep q s) i
+in_kept q s i m t = kept_of q i s m t
 
 -- what two tests agree on below n
 pub keep_below_same : (q r : ℕ → Bool) (n : ℕ) → ((i : ℕ) → i < n → q i ≡ r i) → keep q (below n) ≡ keep r (below n)
@@ -89,18 +92,24 @@ any_true q (x ∷ xs) e = go (any_true q xs) (q x) refl e
     go rest true f e = (x, Memᴰ.head refl, f)
     go rest false f e = let r = rest e in (r.0, Memᴰ.tail r.1, r.2)
 
-pub true_any : (q : ℕ → Bool) (s : List ℕ) (i : ℕ) → In s i → q i ≡ true → any q s ≡ true
-true_any q s i (Memᴰ.head {x} {xs} e) t = rw (ap q (sym e) ∙ t)
-true_any q s i (Memᴰ.tail {x} {xs} m) t = go (true_any q xs i m t) (q x)
+any_of : (q : ℕ → Bool) (i : ℕ) (s : List ℕ) → In s i → q i ≡ true → any q s ≡ true
+any_of q i s (Memᴰ.head {x} {xs} e) t = rw (ap q (sym e) ∙ t)
+any_of q i s (Memᴰ.tail {x} {xs} m) t = go (any_of q i xs m t) (q x)
   where
     go : any q xs ≡ true → (b : Bool) → b || any q xs ≡ true
     go h true = refl
     go h false = h
 
+pub true_any : (q : ℕ → Bool) (s : List ℕ) (i : ℕ) → In s i → q i ≡ true → any q s ≡ true
+true_any q s i m t = any_of q i s m t
+
 -- an entry stands at a place, and a place below the length has an entry
+place_in : (i : ℕ) (s : List ℕ) → In s i → (k : ℕ) × (k < length s) × (get_or s k 0 ≡ i)
+place_in i s (Memᴰ.head {x} {xs} e) = (0, suc-le-suc zero-le, sym e)
+place_in i s (Memᴰ.tail {x} {xs} m) = let r = place_in i xs m in (suc r.0, suc-le-suc r.1, r.2)
+
 pub in_at : (s : List ℕ) (i : ℕ) → In s i → (k : ℕ) × (k < length s) × (get_or s k 0 ≡ i)
-in_at s i (Memᴰ.head {x} {xs} e) = (0, suc-le-suc zero-le, sym e)
-in_at s i (Memᴰ.tail {x} {xs} m) = let r = in_at xs i m in (suc r.0, suc-le-suc r.1, r.2)
+in_at s i m = place_in i s m
 
 pub at_in : (s : List ℕ) (k : ℕ) → k < length s → In s (get_or s k 0)
 at_in [] k h = absurd (not-suc-le-zero h)

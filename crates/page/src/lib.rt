@@ -1,4 +1,6 @@
 // A page, the questions that are put to it, and what is answered.
+#![tactic(auto)]
+
 pub mod answer;
 pub mod counts;
 pub mod guard;

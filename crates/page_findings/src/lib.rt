@@ -1,4 +1,6 @@
 // The findings of a page, from what was found on it: places and keys, then ranks, then each kind at its ranks.
+#![tactic(auto)]
+
 ghost use Rattle.std.specs.Prelude.{map};
 ghost use Rattle.page.specs.Lent.{list_at};
 ghost use Rattle.page.specs.Steps.{Kept};

@@ -1,1 +1,2 @@
 // Laws for readers of a page's contract; there is nothing to run.
+#![tactic(auto)]

@@ -1,5 +1,7 @@
 // The closed sets that a list of pairs makes: a caller of `sets` that joins the pairs it is given, in
 // linear time.
+#![tactic(auto)]
+
 ghost use Rattle.std.specs.Prelude.{◌≡◌, ◌*◌, ◌/◌, length};
 ghost use Rattle.sets.specs.Closed.{Below};
 ghost use Rattle.sets.specs.Steps.{Joins, Room};

@@ -1,4 +1,6 @@
 // Printed and faint rulings, told apart by their contrasts.
+#![tactic(auto)]
+
 ghost use Rattle.std.specs.Prelude.{◌≡◌};
 ghost use Rattle.printed_rulings.specs.Printed.{printed};
 ghost use Rattle.printed_rulings.specs.Steps.{SplitByContrast, RoomForPlaces};

@@ -1,1 +1,2 @@
 // Specs only: what "the first missed question" means, for every guard of the crates above.
+#![tactic(auto)]

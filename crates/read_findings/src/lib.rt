@@ -1,4 +1,6 @@
 // A finding read back from a place of its lists.
+#![tactic(auto)]
+
 ghost use Rattle.std.specs.Prelude.{◌≡◌, [], ◌∷◌, ◌<◌, length, get_or};
 ghost use Rattle.std.specs.Float.{nan};
 ghost use Rattle.read_findings.specs.Read.{finding_with, fold_of, finding_of, columns, all_long, row_at, finding_at};

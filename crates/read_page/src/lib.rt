@@ -1,4 +1,6 @@
 // Rulings and tables, boxes and grids of a page that passed its questions: the stages one after the other.
+#![tactic(auto)]
+
 ghost use Rattle.page.specs.Lent.{list_at};
 ghost use Rattle.read_page.specs.Steps.{Ready, Done};
 

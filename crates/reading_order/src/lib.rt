@@ -1,2 +1,4 @@
 // The reading order of sets of boxes.
+#![tactic(auto)]
+
 pub mod reading;

@@ -9,6 +9,8 @@
 // What is the driver's own: the number of the first missed question, and what a refused page answers beside
 // it; the closed sets, by a flood fill (the ends and members of 5, 6 and 8, the set numbers of 6 and 8),
 // and the reading order of 8, by a plain sort. The sets that 8 names as grids are those that the Rust finds.
+#![tactic(auto)]
+
 use stored::words;
 use stored::words::Word;
 

@@ -6,6 +6,8 @@
 // and findings, the levelled raster, the rulings, the tables, the free list, the boxes and every word of the findings.
 // What is the driver's own: the number of the first missed question, and what a refused page answers beside it; the
 // closed sets, by a flood fill (ends, members and set numbers), and the reading order, by a plain sort.
+#![tactic(auto)]
+
 use stored::words;
 
 mod answers;

@@ -1,4 +1,6 @@
 // Rounding to whole numbers, halves away from zero, and what is made of it.
+#![tactic(auto)]
+
 ghost use Rattle.std.specs.Prelude.{◌≡◌, ◌^◌, ◌≤◌, T};
 ghost use Rattle.std.specs.Float.Ieee.{lt, to_signed};
 ghost use Rattle.std.specs.Float.Ieee.Positive.{num, den};

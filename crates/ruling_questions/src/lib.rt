@@ -1,2 +1,4 @@
 // The questions that `segments` puts.
+#![tactic(auto)]
+
 pub mod guard;

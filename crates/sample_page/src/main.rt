@@ -14,6 +14,8 @@
 // - Fold: row 16, grey 235 on white, contrast 20, which is below 50. It is 20 long at 10 dots an inch: 2 inches. Llr
 //   (50 - 20) / 10: log odds 3. On the page it lies from 0, 15 to 19, 16.
 // The findings stand by their first row, then by their first column.
+#![tactic(auto)]
+
 mod form;
 mod settings;
 mod shown;

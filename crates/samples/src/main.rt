@@ -1,5 +1,7 @@
 // The sample forms of document 01 that are tried by running, and the five slips seen in such ports.
 // `stdout` has a line for each, and every one of them ends in "yes".
+#![tactic(auto)]
+
 mod answer_boxes;
 mod contrast;
 mod floats;

@@ -1,4 +1,6 @@
 // Sign, smaller, larger and clamped values.
+#![tactic(auto)]
+
 ghost use Rattle.std.specs.Prelude.{◌≡◌, false};
 ghost use Rattle.std.specs.Float.Ieee.{is_nan};
 ghost use Rattle.std.specs.Float.Ieee.Scale as Scale;

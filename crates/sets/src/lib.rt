@@ -1,5 +1,7 @@
 // Joining of closed sets, for any touching rule. Parents are a lent list of which the first n entries are used; callers know
 // them only by what the contracts say of roots.
+#![tactic(auto)]
+
 ghost use Rattle.std.specs.Prelude.{◌≡◌, true, map, ◌<◌};
 ghost use Rattle.lists.specs.Lists.{below, written};
 ghost use Rattle.sets.specs.Steps.{Room, Parents, root, Found, Joined};

@@ -1,5 +1,7 @@
 // Indexes in the order of their keys, and the first place in it from which the keys are large enough: what is within bounds is found without
 // a look at the rest.
+#![tactic(auto)]
+
 ghost use Rattle.std.specs.Prelude.{◌≡◌, ◌≤◌, ◌^◌, drop};
 ghost use Rattle.sorted.specs.Steps.{offset, SortRoom, InOrder, FirstAtLeast};
 

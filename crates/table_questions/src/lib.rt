@@ -1,2 +1,4 @@
 // The questions that `tables` puts.
+#![tactic(auto)]
+
 pub mod guard;

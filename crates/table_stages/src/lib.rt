@@ -1,5 +1,7 @@
 // The stage of the tables over bundles of lent lists: it lends its lists to the core that finds them among the printed
 // rulings.
+#![tactic(auto)]
+
 ghost use Rattle.core.specs.Prelude.{◌*◌, take};
 ghost use Rattle.params.specs.Steps.{SettingsPassed};
 ghost use Rattle.meeting.specs.Steps.{Given};

@@ -1,4 +1,6 @@
 // Tables: connected sets of horizontal and vertical rulings with enough of each; the other rulings are free.
+#![tactic(auto)]
+
 pub mod core;
 
 ghost use Rattle.tables.specs.Call.{Tables};

@@ -1,5 +1,7 @@
 // Calls for the differential runs and the bench, which the product does not have: closed sets of
 // numbers within a gap and of given pairs (crates `gaps` and `pairs`), and the sort (crate `sort`).
+#![tactic(auto)]
+
 ghost use Rattle.std.specs.Prelude.{length};
 ghost use Rattle.gaps.specs.Answers.{room_for};
 ghost use Rattle.gaps.specs.Gaps.{GapSets};

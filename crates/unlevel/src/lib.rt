@@ -1,4 +1,6 @@
 // `unlevel`: a guard computes the number of the first missed question, and a core does the work.
+#![tactic(auto)]
+
 ghost use Rattle.unlevel.specs.Call.{Unlevel};
 
 use layout::sides::Sides;

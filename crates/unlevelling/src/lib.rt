@@ -1,5 +1,7 @@
 // The inverse of levelling: the page as scanned. It goes into the page raster by bands of rows; in a band, by runs of columns that
 // share a shear, since a run of a page row is a run of a levelled row; and where runs are too short for that, column by column.
+#![tactic(auto)]
+
 ghost use Rattle.std.specs.Prelude.{◌≡◌, ◌+◌, ◌*◌, ◌≤◌, ◌<◌};
 ghost use Rattle.layout.specs.Tables.{entry};
 ghost use Rattle.layout.specs.Level.{unlevelled};
