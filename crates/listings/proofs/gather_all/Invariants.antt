@@ -1,0 +1,36 @@
+-- `listings::gather_all` meets its contract: the classes with a root below i are listed, and the thread of the root i is its class.
+use mathlib.Core.Path.{◌≡◌, refl, sym, ap, ap₂, subst, ◌∙◌}
+use mathlib.Core.Logic.{⊎_elim}
+use mathlib.Core.List.{List, [], ◌∷◌, ◌++◌}
+use Prim.Native.Nat.{ℕ, ◌+◌, ◌-◌, ◌≤◌, ◌<◌, zero-le}
+use native.Mathlib.Nat.{zero-add}
+use native.Mathlib.Numerals.{add-one}
+use native.Mathlib.Omega.{arith}
+use lib.ListN.{length, set, length-set, length-append}
+use lib.Seq.{sets, length-sets}
+use Rattle.lists.specs.Lists.{concat, written}
+use Rattle.lists.proofs.Written.{written_more, written_run}
+use Rattle.sets.specs.Listing.{ends_from}
+use Rattle.sets.specs.Steps.{class_of, entry, Flat, Threaded, Trail, Fitting, Appended, Gathered}
+use Rattle.sets.proofs.Sizes.{classes_to, classes_all, classes_none, classes_one, classes_past, classes_count, classes_fit, concat_one, length_ends, ends_one}
+use Rattle.listings.proofs.Trails.{threaded_rises, trail_class}
+use Rattle.listings.proofs.gather_all.Given as goal
+
+-- the listing of the classes ss
+pub record Partial (ss : List (List ℕ)) (m₀ e₀ m e : List ℕ) (at count : ℕ) : Type 0 where
+  pub place : at ≡ length (concat ss)
+  pub number : count ≡ length ss
+  pub members : m ≡ written (concat ss) m₀
+  pub ends : e ≡ written (ends_from 0 ss) e₀
+  pub members_long : length m ≡ length m₀
+  pub ends_long : length e ≡ length e₀
+
+pub record Gathering (n : ℕ) (p m₀ e₀ m e : List ℕ) (at count i : ℕ) : Type 0 where
+  pub up_to : i ≤ n
+  pub part : Partial (classes_to n (entry p) i) m₀ e₀ m e at count
+
+abbrev pub invariant-loop-root : goal.invariant-loop-root
+invariant-loop-root l = Gathering l.n l.parents l.initial.members l.initial.ends l.members l.ends l.at l.count l.root
+
+abbrev pub decreases-loop-root : goal.decreases-loop-root
+decreases-loop-root l = l.n - l.root
