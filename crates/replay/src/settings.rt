@@ -4,7 +4,7 @@ use params::settings::RulingsParams;
 use stored::{floats, words, written};
 
 // What a call is given, and the place past that.
-#[derive(Drop)]
+#[derive(Clone, Copy)]
 pub struct Given {
     pub w: usize,
     pub h: usize,

@@ -1,14 +1,10 @@
 -- `listings::gather` meets its contract: what is written, with the rest of the trail from i on, is the whole trail.
-use mathlib.Core.Path.{◌≡◌, refl, sym, ap, ◌∙◌}
-use mathlib.Core.Logic.{⊎_elim}
-use mathlib.Core.List.{List, [], ◌∷◌}
-use Prim.Native.Nat.{ℕ, suc, ◌+◌, ◌-◌, ◌≤◌, ◌<◌}
-use native.Mathlib.Numerals.{add-one}
-use native.Mathlib.Omega.{arith}
-use lib.ListN.{length, set, length-set}
+use mathlib.Core.Path.{◌≡◌}
+use mathlib.Core.List.{List}
+use Prim.Native.Nat.{ℕ, ◌+◌, ◌-◌, ◌≤◌, ◌<◌}
+use lib.ListN.{length}
 use lib.Seq.{sets}
-use Rattle.sets.specs.Steps.{last, more}
-use Rattle.sets.specs.Steps.{entry, Rising, Trail, Fitting, Appended}
+use Rattle.sets.specs.Steps.{Trail}
 use Rattle.listings.proofs.gather.Given as goal
 
 pub record Walking (next : List ℕ) (n : ℕ) (members₀ : List ℕ) (root at : ℕ) (members : List ℕ) (i end : ℕ) : Type 0 where

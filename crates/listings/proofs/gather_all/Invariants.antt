@@ -1,19 +1,12 @@
 -- `listings::gather_all` meets its contract: the classes with a root below i are listed, and the thread of the root i is its class.
-use mathlib.Core.Path.{◌≡◌, refl, sym, ap, ap₂, subst, ◌∙◌}
-use mathlib.Core.Logic.{⊎_elim}
-use mathlib.Core.List.{List, [], ◌∷◌, ◌++◌}
-use Prim.Native.Nat.{ℕ, ◌+◌, ◌-◌, ◌≤◌, ◌<◌, zero-le}
-use native.Mathlib.Nat.{zero-add}
-use native.Mathlib.Numerals.{add-one}
-use native.Mathlib.Omega.{arith}
-use lib.ListN.{length, set, length-set, length-append}
-use lib.Seq.{sets, length-sets}
+use mathlib.Core.Path.{◌≡◌}
+use mathlib.Core.List.{List}
+use Prim.Native.Nat.{ℕ, ◌-◌, ◌≤◌}
+use lib.ListN.{length}
 use Rattle.lists.specs.Lists.{concat, written}
-use Rattle.lists.proofs.Written.{written_more, written_run}
 use Rattle.sets.specs.Listing.{ends_from}
-use Rattle.sets.specs.Steps.{class_of, entry, Flat, Threaded, Trail, Fitting, Appended, Gathered}
-use Rattle.sets.proofs.Sizes.{classes_to, classes_all, classes_none, classes_one, classes_past, classes_count, classes_fit, concat_one, length_ends, ends_one}
-use Rattle.listings.proofs.Trails.{threaded_rises, trail_class}
+use Rattle.sets.specs.Steps.{entry}
+use Rattle.sets.proofs.Sizes.{classes_to}
 use Rattle.listings.proofs.gather_all.Given as goal
 
 -- the listing of the classes ss

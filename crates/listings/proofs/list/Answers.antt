@@ -3,7 +3,6 @@ use mathlib.Core.Path.{◌≡◌, ap, ◌∙◌}
 use mathlib.Core.List.{List, map}
 use Prim.Native.Nat.{ℕ, ◌≤◌}
 use lib.ListN.{length, replicate, length-replicate, get_or-replicate}
-use borrow.Author.Rules.{rules}
 use Rattle.lists.specs.Lists.{below, written, concat}
 use Rattle.lists.proofs.Written.{written_length, written_at}
 use Rattle.sets.specs.Listing.{ends_from}

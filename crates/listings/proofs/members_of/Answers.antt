@@ -6,7 +6,6 @@ use native.Mathlib.Omega.{arith}
 use lib.ListN.{length, get_or, take, drop}
 use borrow.Author.Tests.{lt-ltb, le-ltb, le-leb, lt-leb}
 use Rattle.sets.specs.Listing.{start_of, members_of}
-use borrow.Author.Rules.{rules}
 use Rattle.sets.proofs.Listings.{members_inside}
 use Rattle.listings.proofs.members_of.Goals as goal
 

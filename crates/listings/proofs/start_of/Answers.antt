@@ -5,7 +5,6 @@ use Prim.Native.Nat.{ℕ, zero, suc, ◌-◌}
 use native.Mathlib.Omega.{arith}
 use lib.ListN.{get_or}
 use Rattle.sets.specs.Listing.{start_of}
-use borrow.Author.Rules.{rules}
 use Rattle.listings.proofs.start_of.Goals as goal
 
 before_it : (ends : List ℕ) (k : ℕ) → (k ≡ 0 → ⊥) → get_or ends (k - 1) 0 ≡ start_of ends k

@@ -7,7 +7,7 @@ use Prim.Native.Nat.{ℕ, suc, ◌-◌, ◌≤◌, ◌<◌}
 use native.Mathlib.Nat.{le_refl, eq-or-lt_of_le, lt-suc_self, le_step}
 use native.Mathlib.Decide.{ℕ_discrete}
 use native.Mathlib.Omega.{arith}
-use lib.ListN.{length, set, length-set}
+use lib.ListN.{set, length-set}
 use lib.Seq.{get_or-set_same, get_or-set_other}
 use Rattle.sets.specs.Steps.{found, none}
 use Rattle.sets.specs.Steps.{entry, Flat, First, Unthreaded, Threaded}

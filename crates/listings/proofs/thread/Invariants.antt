@@ -1,16 +1,10 @@
 -- `listings::thread` meets its contract: once the indexes from i on are in, each of them points at the next with its root, and each smaller root at
 -- the first of its set from i on.
-use mathlib.Core.Path.{◌≡◌, refl, sym, ◌∙◌}
-use mathlib.Core.Logic.{⊎_elim}
+use mathlib.Core.Path.{◌≡◌}
 use mathlib.Core.List.{List}
-use Prim.Native.Nat.{ℕ, suc, ◌-◌, ◌≤◌, ◌<◌}
-use native.Mathlib.Nat.{le_refl, eq-or-lt_of_le, lt-suc_self, le_step}
-use native.Mathlib.Decide.{ℕ_discrete}
-use native.Mathlib.Omega.{arith}
-use lib.ListN.{length, set, length-set}
-use lib.Seq.{get_or-set_same, get_or-set_other}
-use Rattle.sets.specs.Steps.{found, none}
-use Rattle.sets.specs.Steps.{entry, Flat, First, Unthreaded, Threaded}
+use Prim.Native.Nat.{ℕ, suc, ◌≤◌, ◌<◌}
+use lib.ListN.{length}
+use Rattle.sets.specs.Steps.{entry, First}
 use Rattle.listings.proofs.thread.Given as goal
 
 pub record Threading (n : ℕ) (p next₀ next : List ℕ) (i : ℕ) : Type 0 where

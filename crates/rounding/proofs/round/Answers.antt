@@ -1,5 +1,5 @@
 -- `rounding::round` meets its contract: the sign goes through the rounding, and a zero or a NaN is whole as it is.
-use Rattle.std.proofs.Common.{sym, ap, ◌∙◌, rules}
+use Rattle.std.proofs.Common.{sym, ap, ◌∙◌}
 use lib.Ieee.{neg}
 use Rattle.math.proofs.Tests.{of_true}
 use Rattle.math.proofs.Rounded.{neg_above, neg_rounds, whole_zero}

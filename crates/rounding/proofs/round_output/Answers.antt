@@ -1,5 +1,5 @@
 -- `rounding::round_output` meets its contract: each way out is the case of the definition that its test names.
-use Rattle.std.proofs.Common.{sym, rules}
+use Rattle.std.proofs.Common.{sym}
 use Rattle.rounding.proofs.round_output.Goals as goal
 
 pub returns-then-r : goal.returns-then-r

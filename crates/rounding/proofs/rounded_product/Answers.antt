@@ -1,5 +1,5 @@
 -- `rounding::rounded_product` meets its contract: it is the cast of the rounded product, step by step.
-use Rattle.std.proofs.Common.{ap, ◌∙◌, w64, rules}
+use Rattle.std.proofs.Common.{ap, ◌∙◌, w64}
 use mir.ValLaws.{to_z-of_z}
 use lib.Ieee.{to_signed}
 use Rattle.rounding.proofs.rounded_product.Goals as goal

@@ -1,5 +1,5 @@
 -- `rounding::to_i64` meets its contract: past either end the cast is that end, at a NaN it is 0, and between the ends nothing is lost but the fraction.
-use Rattle.std.proofs.Common.{sym, rules}
+use Rattle.std.proofs.Common.{sym}
 use lib.Ieee.{of_bits, neg}
 use Rattle.rounding.proofs.Cast.{cast_high, cast_low, cast_nan, above_low, below_high}
 use Rattle.rounding.proofs.to_i64.Goals as goal

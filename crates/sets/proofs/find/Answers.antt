@@ -4,7 +4,7 @@ use mathlib.Core.List.{List}
 use Prim.Native.Nat.{ℕ, ◌≤◌, ◌<◌, ◌^◌}
 use native.Mathlib.Omega.{arith}
 use lib.ListN.{length, get_or, set, length-set}
-use Rattle.sets.specs.Steps.{Parents, root, SameRoots, Found}
+use Rattle.sets.specs.Steps.{Parents, root, Found}
 use Rattle.sets.proofs.Roots.{root_parent, root_stays, halved, same_trans}
 use Rattle.sets.proofs.find.Invariants.{Climbing}
 use Rattle.sets.proofs.find.Goals as goal

@@ -1,11 +1,9 @@
 -- `sets::find` meets its contract: every turn halves the path and keeps every root, and stands at an index with the root that is looked for.
-use mathlib.Core.Path.{◌≡◌, refl, sym, ap, ◌∙◌}
+use mathlib.Core.Path.{◌≡◌}
 use mathlib.Core.List.{List}
-use Prim.Native.Nat.{ℕ, ◌≤◌, ◌<◌, ◌^◌}
-use native.Mathlib.Omega.{arith}
-use lib.ListN.{length, get_or, set, length-set}
-use Rattle.sets.specs.Steps.{Parents, root, SameRoots, Found}
-use Rattle.sets.proofs.Roots.{root_parent, root_stays, halved, same_trans}
+use Prim.Native.Nat.{ℕ, ◌<◌}
+use lib.ListN.{length, get_or}
+use Rattle.sets.specs.Steps.{root, SameRoots}
 use Rattle.sets.proofs.find.Given as goal
 
 pub record Climbing (n : ℕ) (p : List ℕ) (index : ℕ) (q : List ℕ) (i up : ℕ) : Type 0 where

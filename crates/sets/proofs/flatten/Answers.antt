@@ -2,11 +2,11 @@
 use mathlib.Core.Path.{◌≡◌, refl, sym, ◌∙◌}
 use mathlib.Core.Logic.{⊎_elim}
 use mathlib.Core.List.{List, map}
-use Prim.Native.Nat.{ℕ, ◌≤◌, ◌+◌, ◌<◌, ◌-◌}
+use Prim.Native.Nat.{ℕ, ◌≤◌, ◌+◌, ◌<◌}
 use native.Mathlib.Nat.{eq-or-lt_of_le, le_refl}
 use native.Mathlib.Omega.{arith}
-use lib.ListN.{length, get_or, set, length-set}
-use Rattle.lists.specs.Lists.{below, written}
+use lib.ListN.{get_or, set, length-set}
+use Rattle.lists.specs.Lists.{below}
 use Rattle.lists.proofs.Keep.{length_values, get_d_values, values_more}
 use Rattle.lists.proofs.Written.{written_at, written_past, written_more}
 use Rattle.sets.specs.Steps.{Parents, root}

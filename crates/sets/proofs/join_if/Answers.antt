@@ -1,5 +1,4 @@
 -- `sets::join_if` meets its contract: it joins, or there is nothing to change, since the two have one parent or don't touch.
-use borrow.Author.Rules.{rules}
 use Rattle.sets.proofs.Roots.{join_none, join_same}
 use Rattle.sets.proofs.join_if.Goals as goal
 

@@ -1,12 +1,9 @@
 -- `sums::sum::add_up` meets its contract. The invariant: what is left of the list, added to s, is the whole list added to 0.0.
-use mathlib.Core.Path.{◌≡◌, refl, sym, ◌∙◌}
+use mathlib.Core.Path.{◌≡◌}
 use Prim.Native.Nat.{◌≤◌, ◌-◌}
-use native.Mathlib.Omega.{arith}
 use lib.ListN.{length, drop}
-use borrow.Author.Rules.{scaled_Fits}
 use Rattle.math.specs.Constants.{zero}
 use Rattle.math.specs.Sum.{added_to}
-use Rattle.math.proofs.Sums.{added_step, added_all}
 use Rattle.sums.proofs.sum.add_up.Given as goal
 
 abbrev pub invariant-loop-i : goal.invariant-loop-i

@@ -1,7 +1,4 @@
-use Rattle.std.proofs.Common.{length, ◌≡◌, ℕ, ◌+◌, ◌-◌, ◌*◌, ◌<◌, ◌≤◌}
-use Rattle.math.specs.Constants.{zero}
-use Rattle.math.specs.Sum.{added_to, pairwise_sum, values_at}
-use Rattle.math.specs.Steps.{PlacesIn}
+use Rattle.std.proofs.Common.{length}
 use Rattle.sums.proofs.sum_at.+pairwise_sum_at.Given as goal
 
 -- proposed from what the function passes where it calls itself

@@ -1,11 +1,10 @@
 -- `sums::sum_at::add_up_at` meets its contract. The invariant: what is left of the values, added to s, is all of them added to 0.0.
-use mathlib.Core.Path.{◌≡◌, refl, sym, ap, ◌∙◌}
-use Prim.Native.Nat.{◌+◌, ◌≤◌, ◌-◌}
+use mathlib.Core.Path.{refl, sym, ap, ◌∙◌}
+use Prim.Native.Nat.{◌+◌}
 use native.Mathlib.Omega.{arith}
 use lib.Ieee.{Float, binary64, add}
 use lib.ListN.{length, get_or, drop}
 use borrow.Author.Rules.{scaled_Fits}
-use Rattle.math.specs.Constants.{zero}
 use Rattle.math.specs.Sum.{added_to, values_at}
 use Rattle.math.proofs.Sums.{added_step, added_all}
 use Rattle.sums.proofs.SumAt.{values_long, value_at}
