@@ -30,8 +30,8 @@ slot E = mut_slice_of (0 ∷ []) tt (plain (λ _. E))
 abbrev pub val_of : {X : Type 0} → Bor (List X) → Val
 val_of x = slice_val x.ref_ptr (length x.now)
 
-pub array_of : {M : Type 1} {𝓤 : Ura M} (𝓛 : Logic 𝓤) (R : RattleType) (xs : List R.Denot) (us : List Val)
+pub array_owned : {M : Type 1} {𝓤 : Ura M} (𝓛 : Logic 𝓤) (R : RattleType) (xs : List R.Denot) (us : List Val)
     → ent 𝓤 (sem 𝓛 (each R.Denot R.own_val xs us)) (sem 𝓛 ((Array R (length xs)).own_val xs (array_val us ∷ [])))
-array_of 𝓛 R xs us =
+array_owned 𝓛 R xs us =
     qed 𝓛 (‵ (each R.Denot R.own_val xs us) ∷ []) ∵ pure_i ! (shape (length xs) xs (array_val us ∷ []) us) (tt, tt) (refl, refl) $ fjoin ! $
     fpack ! (List Val) (λ ws. fsep (shape (length xs) xs (array_val us ∷ []) ws) (each R.Denot R.own_val xs ws)) us $ done !

@@ -26,7 +26,7 @@ use denote.Triple.Entry.{on_entry}
 use denote.Triple.Spec.{Meets}
 use denote.Triple.Walked.{says, Stays, stay_dropped, walk_of, Goes-spent_slice, ends_at, walked, walk_Meets}
 use denote.Exit.{no}
-use Rattle.bundles.proofs.Arrays.{list, moved, slot, val_of, array_of}
+use Rattle.bundles.proofs.Arrays.{list, moved, slot, val_of, array_owned}
 
 -- the first list is lent on and put together again, the others are moved
 abbrev pub function : Ty → Fn
@@ -74,7 +74,7 @@ module _ (E : RattleType) where
     exits =
         qed 𝓛 ((‵ (flft κ s) ⊛ ‵ ftrue) ∷ ‵ (owns (R ∷ []) (a, tt) at) ∷ []) ∵
         suffices ! _ (ends_at 𝓛 ended stayed (clauses 𝓤) bound (array_val us) (a ∷ []) (tt, tt) (tt, tt)) $ says ! refl $
-        frame ! $ pure_i ! (fsep ftrue (ftrue)) (tt, tt) (tt, tt) $ frame ! $ by ! (array_of 𝓛 R (a ∷ []) us)
+        frame ! $ pure_i ! (fsep ftrue (ftrue)) (tt, tt) (tt, tt) $ frame ! $ by ! (array_owned 𝓛 R (a ∷ []) us)
 
     module _ (τ : Ty) (C : Calls 𝓤 H) (Λ : Loops 𝓤 H) where
       walk : Is R a (val_of a ∷ []) → ent 𝓤 (on_entry 𝓛 ended.signature (κ, tt) (s, tt) (a, tt) at) (WpFn 𝓤 H C Λ (function τ) us Post)

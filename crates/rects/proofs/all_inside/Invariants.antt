@@ -1,15 +1,9 @@
 -- `rects::all_inside` meets its contract: every rectangle below k is inside, and one that is not decides.
-use mathlib.Core.Path.{◌≡◌, refl, sym, ap, ap₂, ◌∙◌}
-use mathlib.Core.Bool.{Bool, true, ◌&&◌}
-use mathlib.Core.List.{List}
-use Prim.Native.Nat.{ℕ, ◌+◌, ◌-◌, ◌≤◌}
-use native.Mathlib.Omega.{arith}
-use borrow.Author.Tests.{not-true, not-false}
+use mathlib.Core.Path.{◌≡◌}
+use mathlib.Core.Bool.{true}
+use Prim.Native.Nat.{◌-◌, ◌≤◌}
 use Rattle.lists.specs.Lists.{every_below}
-use Rattle.lists.proofs.Every.{every_more, every_fails}
-use Rattle.rects.specs.Rects.{count, inside, rect_at}
-use Rattle.rects.specs.declared.Rect.{Rect}
-use Rattle.rects.proofs.Questions.{has_numbers}
+use Rattle.rects.specs.Rects.{inside, rect_at}
 use Rattle.rects.proofs.all_inside.Given as goal
 
 abbrev pub invariant-loop-k : goal.invariant-loop-k

@@ -1,13 +1,8 @@
 -- `rects::bounding` meets its contract. The invariant: r, with the rectangles at the places that are left, makes the whole.
-use mathlib.Core.Path.{◌≡◌, sym, ap, ◌∙◌}
-use Prim.Native.Nat.{◌+◌, ◌-◌, ◌≤◌}
-use native.Mathlib.Omega.{arith}
-use lib.ListN.{length, get_or, drop}
-use borrow.Author.Rules.{scaled_Fits}
-use Rattle.lists.proofs.Keep.{at_in}
-use Rattle.rects.specs.declared.Rect.{Rect}
-use Rattle.rects.specs.Around.{union_of, unioned, around}
-use Rattle.rects.proofs.Around.{around_first, unioned_step, unioned_all}
+use mathlib.Core.Path.{◌≡◌}
+use Prim.Native.Nat.{◌-◌, ◌≤◌}
+use lib.ListN.{length, drop}
+use Rattle.rects.specs.Around.{unioned, around}
 use Rattle.rects.proofs.bounding.Given as goal
 
 abbrev pub invariant-loop-i : goal.invariant-loop-i

@@ -1,7 +1,6 @@
 -- `rects::put_rect` meets its contract: four stores, one after the other.
 use Prim.Native.Nat.{◌*◌}
 use native.Mathlib.Omega.{arith}
-use borrow.Author.Rules.{rules}
 use lib.ListN.{length-set}
 use Rattle.rects.proofs.Stores.{four}
 use Rattle.rects.proofs.put_rect.Goals as goal

@@ -1,5 +1,4 @@
 -- `rects::union_rect` meets its contract, side by side.
-use borrow.Author.Rules.{rules}
 use Rattle.rects.proofs.union_rect.Goals as goal
 
 pub returns : goal.returns

@@ -1,6 +1,5 @@
 -- `Rect::is_inside` meets its contract: the first test that fails decides.
 use native.Mathlib.Omega.{arith}
-use borrow.Author.Rules.{rules}
 use borrow.Author.Tests.{le-leb, lt-leb, lt-ltb, le-ltb}
 use Rattle.rects.proofs.Rect.is_inside.Goals as goal
 

@@ -1,0 +1,76 @@
+-- `bands::four_columns` meets its contract: after j turns each number is the ink of the first j places of its column.
+use mathlib.Core.Path.{◌≡◌, refl, ◌∙◌}
+use Prim.Native.Nat.{ℕ, ◌+◌, ◌-◌, ◌*◌, ◌≤◌, ◌<◌}
+use mathlib.Core.List.{List}
+use native.Mathlib.Omega.{arith}
+use borrow.Author.Rules.{rules}
+use lib.ListN.{length}
+use Rattle.rects.specs.Rects.{width_of, height_of}
+use Rattle.rects.specs.declared.Rect.{Rect}
+use Rattle.ink.specs.Ink.{Ink, ink_at, many, column_ink}
+use Rattle.ink.specs.Steps.{Readable}
+use Rattle.ink.proofs.Counts.{many_le, many_next, row_in_mask}
+use Rattle.ink_bands.proofs.four_columns.Invariants.{Tally}
+use Rattle.ink_bands.proofs.four_columns.Goals.{In-loop-j}
+use Rattle.ink_bands.proofs.four_columns.Goals as goal
+
+-- place j of column i stands in the mask, and its count fits
+fits : (mask : List ℕ) (w : ℕ) (r : Rect) (i : ℕ) {j n x : ℕ} → Readable mask w r → i < width_of r → j < height_of r → x ≡ r.x0 + i → Tally (ink_at w mask) x r.y0 j n
+    → ((r.y0 + j) * w + x < length mask) × (n < 8192)
+fits mask w r i {j} {n} {x} R li lj e t =
+    (omega (arith, row_in_mask mask w r R j lj, R.wide), omega (arith, t, many_le (λ k. ink_at w mask x (r.y0 + k)) j, R.low, R.high))
+
+-- a whole column
+whole : (ink : Ink) (r : Rect) (i : ℕ) {j n x : ℕ} → j ≡ height_of r → x ≡ r.x0 + i → Tally ink x r.y0 j n → n ≡ column_ink ink r i
+unfolding column_ink
+whole ink r i e f t = rw (f, e) at t
+
+pub loop-j-init : goal.loop-j-init
+loop-j-init c = (omega arith, refl, refl, refl, refl)
+
+-- column i + d at the head of a turn
+here : (c : In-loop-j) (d : ℕ) {n x : ℕ} → d < 4
+    → let a = c.args in
+    x ≡ a.r.x0 + (a.i + d) → Tally (ink_at a.w a.mask.now) x a.r.y0 c.loop-j.j n
+    → ((a.r.y0 + c.loop-j.j) * a.w + x < length a.mask.now) × (n < 8192)
+here c d h e t =
+    let a = c.args in
+    let p = c.requires in
+    fits a.mask.now a.w a.r (a.i + d) p.0 (omega (arith, p.1)) (omega (arith, c.height-rows.ensures)) e t
+
+pub counted-a-requires : goal.counted-a-requires
+counted-a-requires c = here c 0 (omega arith) (omega arith) c.loop-j.invariant.1
+
+pub counted-b-requires : goal.counted-b-requires
+counted-b-requires c = here (goal.at.counted-b-requires c).In-loop-j 1 (omega arith) (omega arith) c.loop-j.invariant.2
+
+pub counted-c-requires : goal.counted-c-requires
+counted-c-requires c = here (goal.at.counted-c-requires c).In-loop-j 2 (omega arith) (omega arith) c.loop-j.invariant.3
+
+pub counted-d-requires : goal.counted-d-requires
+counted-d-requires c = here (goal.at.counted-d-requires c).In-loop-j 3 (omega arith) (omega arith) c.loop-j.invariant.4
+
+pub loop-j-preserved : goal.loop-j-preserved
+loop-j-preserved c =
+    let a = c.args in
+    let ink = ink_at a.w a.mask.now in
+    let x = a.r.x0 + a.i in (
+      omega arith,
+      c.counted-a.ensures ∙ many_next (λ k. ink x (a.r.y0 + k)) c.loop-j.j c.loop-j.invariant.1 refl,
+      c.counted-b.ensures ∙ many_next (λ k. ink (x + 1) (a.r.y0 + k)) c.loop-j.j c.loop-j.invariant.2 refl,
+      c.counted-c.ensures ∙ many_next (λ k. ink (x + 2) (a.r.y0 + k)) c.loop-j.j c.loop-j.invariant.3 refl,
+      c.counted-d.ensures ∙ many_next (λ k. ink (x + 3) (a.r.y0 + k)) c.loop-j.j c.loop-j.invariant.4 refl,
+    )
+
+pub returns : goal.returns
+returns c =
+    let a = c.args in
+    let v = c.loop-j.invariant in
+    let end : c.loop-j.j ≡ height_of a.r = omega (arith, c.height-rows.ensures) in
+    let ink = ink_at a.w a.mask.now in
+    record {
+      first = whole ink a.r a.i end refl v.1;
+      second = whole ink a.r (a.i + 1) end (omega arith) v.2;
+      third = whole ink a.r (a.i + 2) end (omega arith) v.3;
+      fourth = whole ink a.r (a.i + 3) end (omega arith) v.4;
+    }

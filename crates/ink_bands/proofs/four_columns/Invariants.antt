@@ -1,0 +1,24 @@
+-- `bands::four_columns` meets its contract: after j turns each number is the ink of the first j places of its column.
+use mathlib.Core.Path.{◌≡◌, refl, ◌∙◌}
+use Prim.Native.Nat.{ℕ, ◌+◌, ◌-◌, ◌*◌, ◌≤◌, ◌<◌}
+use mathlib.Core.List.{List}
+use native.Mathlib.Omega.{arith}
+use borrow.Author.Rules.{rules}
+use lib.ListN.{length}
+use Rattle.rects.specs.Rects.{width_of, height_of}
+use Rattle.rects.specs.declared.Rect.{Rect}
+use Rattle.ink.specs.Ink.{Ink, ink_at, many, column_ink}
+use Rattle.ink.specs.Steps.{Readable}
+use Rattle.ink.proofs.Counts.{many_le, many_next, row_in_mask}
+use Rattle.ink_bands.proofs.four_columns.Given as goal
+
+-- the first j places of column x from row y on have n ink
+abbrev pub Tally : Ink → ℕ → ℕ → ℕ → ℕ → Type 0
+Tally ink x y j n = n ≡ many (λ k. ink x (y + k)) j
+
+abbrev pub invariant-loop-j : goal.invariant-loop-j
+invariant-loop-j l =
+    (l.j ≤ l.rows) × Tally (ink_at l.w l.mask) l.x l.y l.j l.a × Tally (ink_at l.w l.mask) (l.x + 1) l.y l.j l.b × Tally (ink_at l.w l.mask) (l.x + 2) l.y l.j l.c × Tally (ink_at l.w l.mask) (l.x + 3) l.y l.j l.d
+
+abbrev pub decreases-loop-j : goal.decreases-loop-j
+decreases-loop-j l = l.rows - l.j

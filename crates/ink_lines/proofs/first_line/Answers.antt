@@ -1,0 +1,48 @@
+-- `lines::first_line` meets its contract: the first line over the limit from the one in hand on is the first of all.
+use mathlib.Core.Path.{◌≡◌, sym, ap, ◌∙◌}
+use mathlib.Core.Bool.{Bool}
+use mathlib.Core.List.{List}
+use Prim.Native.Nat.{ℕ, ◌-◌, ◌≤◌}
+use native.Mathlib.Omega.{arith}
+use borrow.Author.Rules.{rules}
+use lib.Ieee.{Float}
+use Rattle.rects.specs.declared.Rect.{Rect}
+use Rattle.ink.specs.Ink.{ink_at}
+use Rattle.ink.specs.Steps.{line_ink}
+use Rattle.ink.specs.Places.{over, first_from, first_place}
+use Rattle.ink.proofs.Places.{first_found, first_passed, first_none}
+use Rattle.ink_bands.proofs.Banded.{first_past}
+use Rattle.ink_lines.proofs.first_line.Invariants.{test}
+use Rattle.ink_lines.proofs.first_line.Goals.{After-is_over}
+use Rattle.ink_lines.proofs.first_line.Goals as goal
+
+pub loop-k-init : goal.loop-k-init
+loop-k-init c =
+    let a = c.args in
+    let few : c.passed_from_front-k.result ≤ c.lines_of-n.result = omega (arith, c.passed_from_front-k.ensures.0, c.lines_of-n.ensures) in
+    (few, first_past (test a.mask.now a.w a.r a.rows a.limit) c.lines_of-n.result c.passed_from_front-k.result few c.passed_from_front-k.ensures.1)
+
+pub line_count-requires : goal.line_count-requires
+line_count-requires c = (c.requires, omega (arith, c.lines_of-n.ensures))
+
+-- the test of the line in hand
+found : (c : After-is_over) → let a = c.args in c.is_over.result ≡ test a.mask.now a.w a.r a.rows a.limit c.loop-k.k
+found c = let a = c.args in c.is_over.ensures ∙ ap (over a.limit) c.line_count.ensures
+
+pub returns-then-is_over : goal.returns-then-is_over
+returns-then-is_over c =
+    let a = c.args in
+    let q = test a.mask.now a.w a.r a.rows a.limit in
+    sym (first_found q c.lines_of-n.result c.loop-k.k c.loop-k-test.true (sym (found (goal.at.returns-then-is_over c).After-is_over) ∙ c.if-is_over.true)) ∙ c.loop-k.invariant.1 ∙ ap (first_place q) c.lines_of-n.ensures
+
+pub loop-k-preserved : goal.loop-k-preserved
+loop-k-preserved c =
+    let a = c.args in
+    let q = test a.mask.now a.w a.r a.rows a.limit in
+    (omega arith, sym (first_passed q c.lines_of-n.result c.loop-k.k c.loop-k-test.true (sym (found (goal.at.loop-k-preserved c).After-is_over) ∙ c.if-is_over.false)) ∙ c.loop-k.invariant.1)
+
+pub returns : goal.returns
+returns c =
+    let a = c.args in
+    let q = test a.mask.now a.w a.r a.rows a.limit in
+    sym (first_none q c.lines_of-n.result c.loop-k.k c.loop-k-test.false) ∙ c.loop-k.invariant.1 ∙ ap (first_place q) c.lines_of-n.ensures

@@ -1,0 +1,24 @@
+-- `lines::first_line` meets its contract: the first line over the limit from the one in hand on is the first of all.
+use mathlib.Core.Path.{◌≡◌, sym, ap, ◌∙◌}
+use mathlib.Core.Bool.{Bool}
+use mathlib.Core.List.{List}
+use Prim.Native.Nat.{ℕ, ◌-◌, ◌≤◌}
+use native.Mathlib.Omega.{arith}
+use borrow.Author.Rules.{rules}
+use lib.Ieee.{Float}
+use Rattle.rects.specs.declared.Rect.{Rect}
+use Rattle.ink.specs.Ink.{ink_at}
+use Rattle.ink.specs.Steps.{line_ink}
+use Rattle.ink.specs.Places.{over, first_from, first_place}
+use Rattle.ink.proofs.Places.{first_found, first_passed, first_none}
+use Rattle.ink_bands.proofs.Banded.{first_past}
+use Rattle.ink_lines.proofs.first_line.Given as goal
+
+abbrev pub test : List ℕ → ℕ → Rect → Bool → Float → ℕ → Bool
+test mask w r rows limit k = over limit (line_ink (ink_at w mask) r rows k)
+
+abbrev pub invariant-loop-k : goal.invariant-loop-k
+invariant-loop-k l = (l.k ≤ l.n) × (first_from (test l.mask l.w l.r l.rows l.limit) l.k (l.n - l.k) ≡ first_place (test l.mask l.w l.r l.rows l.limit) l.n)
+
+abbrev pub decreases-loop-k : goal.decreases-loop-k
+decreases-loop-k l = l.n - l.k

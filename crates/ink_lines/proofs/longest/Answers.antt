@@ -1,0 +1,45 @@
+-- `lines::longest` meets its contract: `run` is the run that ends at the line in hand, `best` the longest before it.
+use mathlib.Core.Path.{◌≡◌, sym, ap, ◌∙◌}
+use mathlib.Core.Bool.{Bool, cond}
+use mathlib.Core.List.{List}
+use Prim.Native.Nat.{ℕ, suc, ◌-◌, ◌≤◌}
+use native.Mathlib.Omega.{arith}
+use borrow.Author.Rules.{rules}
+use lib.Dec.{ltb}
+use Rattle.rects.specs.declared.Rect.{Rect}
+use Rattle.ink.specs.Ink.{ink_at}
+use Rattle.ink.specs.Steps.{line_ink}
+use Rattle.ink.specs.Places.{run_before, longest_run}
+use Rattle.ink.proofs.Counts.{lines_le}
+use Rattle.ink.proofs.Runs.{run_none, longest_none, run_le, run_next, longest_next}
+use Rattle.ink_lines.proofs.longest.Invariants.{test}
+use Rattle.ink_lines.proofs.longest.Goals as goal
+
+pub loop-k-init : goal.loop-k-init
+loop-k-init c =
+    let a = c.args in
+    let q = test a.mask.now a.w a.r a.rows in
+    (omega arith, sym (run_none q), sym (longest_none q))
+
+pub line_has_ink-requires : goal.line_has_ink-requires
+line_has_ink-requires c = (c.requires, omega (arith, c.lines_of-n.ensures))
+
+pub longer_run-run-requires : goal.longer_run-run-requires
+longer_run-run-requires c =
+    let a = c.args in
+    omega (arith, c.loop-k.invariant.1, run_le (test a.mask.now a.w a.r a.rows) c.loop-k.k, c.loop-k-test.true, c.lines_of-n.ensures, lines_le a.mask.now a.w a.r c.requires a.rows)
+
+pub loop-k-preserved : goal.loop-k-preserved
+loop-k-preserved c =
+    let a = c.args in
+    let q = test a.mask.now a.w a.r a.rows in
+    let k = c.loop-k.k in
+    let r = run_next q k c.loop-k.invariant.1 (c.longer_run-run.ensures ∙ ap (λ (b : Bool). cond b (suc c.loop-k.run) 0) c.line_has_ink.ensures) in
+    (omega arith, r, longest_next q k c.loop-k.invariant.2 r c.greatest-best.ensures)
+
+pub returns : goal.returns
+returns c =
+    let a = c.args in
+    let q = test a.mask.now a.w a.r a.rows in
+    let end : c.loop-k.k ≡ c.lines_of-n.result = omega arith in
+    c.loop-k.invariant.2 ∙ ap (longest_run q) (end ∙ c.lines_of-n.ensures)

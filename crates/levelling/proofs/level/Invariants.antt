@@ -1,0 +1,15 @@
+-- `levelling::level` meets its contract: the rows up to y are levelled.
+use Prim.Native.Nat.{◌-◌, ◌≤◌}
+use native.Mathlib.Omega.{arith}
+use Rattle.layout.specs.Level.{place_shows}
+use Rattle.shear_runs.specs.Steps.{All}
+use Rattle.levelling.specs.Steps.{LevelledArea}
+use Rattle.shear_runs.proofs.Areas.{rows_none, rows_then, all_shown}
+use Rattle.levelling.proofs.Settle.{ready_after}
+use Rattle.levelling.proofs.level.Given as goal
+
+abbrev pub invariant-loop-y : goal.invariant-loop-y
+invariant-loop-y l = (l.y ≤ l.h) × LevelledArea l.sides l.gray l.shear l.shear_x All 0 l.y l.initial.out l.out
+
+abbrev pub decreases-loop-y : goal.decreases-loop-y
+decreases-loop-y l = l.h - l.y

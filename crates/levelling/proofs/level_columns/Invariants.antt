@@ -1,0 +1,16 @@
+-- `levelling::level_columns` meets its contract: the columns are levelled in the rows from y0 up to y.
+use Prim.Native.Nat.{◌+◌, ◌-◌, ◌≤◌}
+use native.Mathlib.Omega.{arith}
+use Rattle.layout.specs.Tables.{entry}
+use Rattle.layout.specs.Level.{place_shows}
+use Rattle.shear_runs.specs.Steps.{Columns}
+use Rattle.levelling.specs.Steps.{LevelledArea}
+use Rattle.shear_runs.proofs.Areas.{rows_none, rows_then, rows_fewer}
+use Rattle.levelling.proofs.Settle.{ready_after}
+use Rattle.levelling.proofs.level_columns.Given as goal
+
+abbrev pub invariant-loop-y : goal.invariant-loop-y
+invariant-loop-y l = (l.y0 ≤ l.y) × LevelledArea l.sides l.gray l.shear l.shear_x (Columns (entry l.shear_x) l.from l.part.to) l.y0 l.y l.initial.out l.out
+
+abbrev pub decreases-loop-y : goal.decreases-loop-y
+decreases-loop-y l = l.y1 - l.y

@@ -1,0 +1,19 @@
+-- `levelling::level_rows` meets its contract: the margins are white, and the page columns up to x are levelled.
+use mathlib.Core.Path.{◌∙◌}
+use Prim.Native.Nat.{◌-◌, ◌≤◌}
+use native.Mathlib.Omega.{arith}
+use lib.ListN.{length}
+use Rattle.layout.specs.Tables.{entry}
+use Rattle.layout.specs.Level.{place_shows}
+use Rattle.shear_runs.specs.Steps.{Columns}
+use Rattle.levelling.specs.Steps.{LevelledArea}
+use Rattle.shear_runs.proofs.Runs.{sheared_frame}
+use Rattle.shear_runs.proofs.Areas.{columns_none, columns_then}
+use Rattle.levelling.proofs.Settle.{ready_long, ready_after, band_whole}
+use Rattle.levelling.proofs.level_rows.Given as goal
+
+abbrev pub invariant-loop-x : goal.invariant-loop-x
+invariant-loop-x l = (l.x ≤ length l.shear) × LevelledArea l.sides l.gray l.shear l.shear_x (Columns (entry l.shear_x) 0 l.x) l.y0 l.y1 l.initial.out l.out
+
+abbrev pub decreases-loop-x : goal.decreases-loop-x
+decreases-loop-x l = length l.shear - l.x

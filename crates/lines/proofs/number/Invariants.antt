@@ -1,0 +1,29 @@
+-- `lines::number` meets its contract: after i turns the first i places have their line numbers.
+use mathlib.Core.Path.{◌≡◌, refl, sym, ap, ◌∙◌}
+use mathlib.Core.Bool.{cond}
+use mathlib.Core.List.{List, [], ◌∷◌, ◌++◌, map}
+use Prim.Native.Nat.{ℕ, zero, suc, ◌+◌, ◌-◌, ◌≤◌, ◌<◌, ◌^◌}
+use native.Mathlib.Omega.{arith}
+use native.Mathlib.Numerals.{add-one}
+use lib.ListN.{length, get_or, set, length-set}
+use Rattle.lists.specs.Lists.{below, written}
+use Rattle.lists.proofs.Written.{written_more}
+use Rattle.lists.proofs.Keep.{length_values, values_more}
+use Rattle.lines.specs.Lines.{sorted_positions, exceeds, line_at, lines_to}
+use Rattle.lines.specs.Steps.{Lined}
+use Rattle.lines.proofs.Sorted.{prior, line_next, line_low, lines_count}
+use Rattle.lines.proofs.number.Given as goal
+
+-- the first i places are numbered; `last` and `line` are those of the place before
+pub record Walk (positions : List ℕ) (limit n : ℕ) (l l' : List ℕ) (last line i : ℕ) : Type 0 where
+  pub up_to : i ≤ n
+  pub long : length l' ≡ length l
+  pub content : l' ≡ written (map (line_at limit (sorted_positions positions)) (below i)) l
+  pub last_is : last ≡ get_or (sorted_positions positions) (prior i) 0
+  pub line_is : line ≡ line_at limit (sorted_positions positions) (prior i)
+
+abbrev pub invariant-loop-i : goal.invariant-loop-i
+invariant-loop-i l = Walk l.positions l.limit l.n l.initial.numbers l.numbers l.line.last l.line.number l.i
+
+abbrev pub decreases-loop-i : goal.decreases-loop-i
+decreases-loop-i l = l.n - l.i

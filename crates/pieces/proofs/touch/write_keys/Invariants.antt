@@ -1,0 +1,22 @@
+-- `touch::write_keys` meets its contract: one key more a turn.
+use mathlib.Core.Path.{◌≡◌, sym}
+use mathlib.Core.List.{List}
+use Prim.Native.Nat.{ℕ, ◌-◌}
+use native.Mathlib.Omega.{arith}
+use borrow.Author.Rules.{scaled_Fits}
+use lib.ListN.{length}
+use Rattle.rects.specs.declared.Rect.{Rect}
+use Rattle.rects.specs.Rects.{rect_at}
+use Rattle.rects.proofs.Questions.{has_numbers}
+use Rattle.sorted.proofs.Writing.{Writing, write_begin, write_turn}
+use Rattle.pieces.specs.Steps.{Ordered, KeyOf}
+use Rattle.pieces.proofs.touch.write_keys.Given as goal
+
+abbrev pub piece_key : List ℕ → ℕ → ℕ → Type 0
+piece_key pieces i v = KeyOf (rect_at pieces i) v
+
+abbrev pub invariant-loop-i : goal.invariant-loop-i
+invariant-loop-i l = Writing (piece_key l.pieces) l.n l.initial.keys l.keys l.i
+
+abbrev pub decreases-loop-i : goal.decreases-loop-i
+decreases-loop-i l = l.n - l.i

@@ -1,0 +1,15 @@
+-- `unlevelling::unlevel` meets its contract: the rows up to y are back.
+use mathlib.Core.Path.{◌∙◌}
+use Prim.Native.Nat.{◌-◌, ◌≤◌}
+use native.Mathlib.Omega.{arith}
+use Rattle.layout.specs.Level.{pixel_in}
+use Rattle.shear_runs.specs.Steps.{All}
+use Rattle.shear_runs.proofs.Areas.{rows_none, rows_then, all_shown}
+use Rattle.unlevelling.specs.Steps.{BackArea}
+use Rattle.unlevelling.proofs.unlevel.Given as goal
+
+abbrev pub invariant-loop-y : goal.invariant-loop-y
+invariant-loop-y l = (l.y ≤ l.ph) × BackArea l.sides l.level l.shear l.shear_x All 0 l.y l.initial.out l.out
+
+abbrev pub decreases-loop-y : goal.decreases-loop-y
+decreases-loop-y l = l.ph - l.y

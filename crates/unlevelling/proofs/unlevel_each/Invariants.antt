@@ -1,0 +1,14 @@
+-- `unlevelling::unlevel_each` meets its contract: the columns from `from` up to x are back.
+use mathlib.Core.Path.{◌∙◌}
+use Prim.Native.Nat.{◌+◌, ◌-◌}
+use native.Mathlib.Omega.{arith}
+use Rattle.layout.specs.Level.{pixel_in}
+use Rattle.shear_runs.proofs.Areas.{holds_in, columns_none, columns_then}
+use Rattle.unlevelling.specs.Steps.{BackArea, PageColumns}
+use Rattle.unlevelling.proofs.unlevel_each.Given as goal
+
+abbrev pub invariant-loop-x : goal.invariant-loop-x
+invariant-loop-x l = BackArea l.sides l.level l.shear l.shear_x (PageColumns l.from l.x) l.y0 l.y1 l.initial.out l.out
+
+abbrev pub decreases-loop-x : goal.decreases-loop-x
+decreases-loop-x l = l.to - l.x
