@@ -1,10 +1,10 @@
 //! Finds the static library and has whoever depends on this linked with it: the file that LANEGRAVEL_LIB
-//! names, or else the one that ./lanegravel lays into build/, or else the one of `rt staticlib`.
+//! names, or else the one that ./lanegravel lays into build/, or else the one of `rt lib`.
 
 use std::env;
 use std::path::{self, Path, PathBuf};
 
-const PLACES: [&str; 2] = ["build", "target/staticlib"];
+const PLACES: [&str; 2] = ["build", "crates/lanegravel/out"];
 
 fn main() {
     let binding = Path::new(env!("CARGO_MANIFEST_DIR"));
@@ -42,7 +42,7 @@ fn how_to_build(looked_at: &[PathBuf]) {
     for line in [
         &format!("no static library at {}", places.join(" nor at ")),
         "without it nothing can be linked; to build it, every proof checked, which takes some minutes:",
-        "    rt staticlib lanegravel    in the root of the repository",
+        "    rt lib    in crates/lanegravel",
         "to use one that lies elsewhere, set LANEGRAVEL_LIB to its whole path",
     ] {
         println!("cargo::warning={line}");

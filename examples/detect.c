@@ -2,7 +2,7 @@
  * the scanner and of what finds rule pieces and glyph boxes: a table with broken rules, a loose rule, four
  * answer boxes with one ticked, and a fold, scanned a little askew.
  *
- *   gcc -std=c99 -I include examples/detect.c target/staticlib/liblanegravel.a -o detect && ./detect
+ *   gcc -std=c99 -I include examples/detect.c crates/lanegravel/out/liblanegravel.a -o detect && ./detect
  *
  * It is C++ as well as C. */
 #include <stdio.h>

@@ -56,7 +56,7 @@ pub struct File {
     pub unread: Vec<Problem>,
 }
 
-const MARKS: [&str; 4] = ["unfoldable", "abbrev", "pub", "axiom"];
+const MARKS: [&str; 5] = ["pattern", "unfoldable", "abbrev", "pub", "axiom"];
 
 pub fn read(path: &str, text: &str) -> Result<File, Problem> {
     let tokens = lex(text, 1).map_err(|(line, what)| Problem::new(path, line, what))?;

@@ -1,7 +1,6 @@
 //! What the gate can't show by itself: that the documents name what is there, that the exported
 //! functions promise something and ask nothing, and that nothing is assumed.
 
-use std::fs;
 use std::path::Path;
 
 use crate::antt;
@@ -9,10 +8,12 @@ use crate::docs;
 use crate::header;
 use crate::known::Known;
 use crate::lex::Token;
+use crate::log;
 use crate::problem::Problem;
-use crate::project::{Crate, Project, read_text};
+use crate::project::{Project, read_text};
 use crate::reach::{self, Call};
 use crate::rt;
+use crate::words::words;
 
 pub const HEADER: &str = "include/lanegravel.h";
 pub const PROMISES: &str = "docs/PROMISES.md";
@@ -24,20 +25,43 @@ pub struct Report {
     pub notes: Vec<String>,
 }
 
-/// All checks, over the exported functions of the library.
-pub fn check(project: &Project, calls: &[Call]) -> Result<Report, Problem> {
+/// What is checked. While crates are missing only a part can be.
+#[derive(Clone, Copy, Debug, PartialEq, Eq)]
+pub enum Part {
+    /// that nothing is assumed, in the sources and in rt's logs
+    Sources,
+    /// the exported functions of the library, and what their contracts reach
+    Exported,
+    /// what the documents name
+    Documents,
+}
+
+pub const PARTS: [(&str, Part); 3] = [
+    ("sources", Part::Sources),
+    ("exported", Part::Exported),
+    ("documents", Part::Documents),
+];
+
+/// All checks, or some of them, over the exported functions of the library.
+pub fn check(project: &Project, calls: &[Call], parts: &[Part]) -> Result<Report, Problem> {
     let mut report = Report::default();
-    report.reached(project, calls);
-    report.exported(project, calls)?;
-    report.documents(project)?;
-    report.sources(project);
-    report.logs(project, false);
+    if parts.contains(&Part::Exported) {
+        report.reached(project, calls);
+        report.exported(project, calls)?;
+    }
+    if parts.contains(&Part::Documents) {
+        report.documents(project)?;
+    }
+    if parts.contains(&Part::Sources) {
+        report.sources(project);
+        report.logs(project, false);
+    }
     report.problems.sort();
     report.problems.dedup();
     Ok(report)
 }
 
-/// rt's log alone, with a verdict of every library: behind `rt ci`, which begins from nothing.
+/// rt's logs alone, with a verdict of every library: behind `rt ci` and the builds of the static libraries.
 pub fn logs(project: &Project) -> Report {
     let mut report = Report::default();
     report.logs(project, true);
@@ -67,8 +91,11 @@ impl Report {
             if function.ensures.is_empty() {
                 wrong("has no `ensures`");
             }
-            if function.has_requires {
+            if !function.requires.is_empty() {
                 wrong("has a `requires`");
+            }
+            if function.unread.is_some() {
+                wrong("has a clause that isn't read");
             }
             if header::declaration(&header, &function.name).is_none() {
                 wrong(&format!("isn't declared in {HEADER}"));
@@ -101,9 +128,18 @@ impl Report {
         Ok(())
     }
 
-    /// No hole, axiom, foreign function or `unsafe` in any crate.
+    /// No hole, axiom, foreign function or `unsafe` in any crate, and no C: none of its own, and no library
+    /// of the kit that has the contracts of C functions.
     fn sources(&mut self, project: &Project) {
         for krate in &project.crates {
+            for library in krate.uses.iter().filter(|u| C.contains(&u.as_str())) {
+                let text = format!("`{}` uses {library}, which is C", krate.name);
+                self.problems.push(Problem::new("crates.txt", 0, text));
+            }
+            let own = format!("crates/{}/c", krate.name);
+            if project.root.join(&own).exists() {
+                self.problems.push(Problem::new(&own, 0, "C of its own"));
+            }
             for file in krate.specs.values().chain(krate.proofs.values()) {
                 self.problems.extend(assumed(file));
             }
@@ -114,38 +150,20 @@ impl Report {
         self.notes.push(format!("{} crates", project.crates.len()));
     }
 
-    /// A library's line in rt's log counts no axiom and names no foreign function. Where no verdict of it
-    /// stands there, it is left out, or with `all` that is wrong.
+    /// No library's verdict in rt's logs assumes anything. A log or a verdict that isn't there is left out,
+    /// or with `all` that is wrong.
     fn logs(&mut self, project: &Project, all: bool) {
-        let (mut read, mut left_out) = (0, Vec::new());
-        let is_program = |k: &&Crate| {
-            k.sources
-                .get("")
-                .is_some_and(|f| f.path.ends_with("main.rt"))
-        };
-        for krate in project.crates.iter().filter(|k| !is_program(k)) {
-            let path = format!("target/log/{}.out", krate.name);
-            let log = fs::read_to_string(project.root.join(&path)).unwrap_or_default();
-            let mut lines = log.lines().enumerate();
-            match lines.find(|(_, l)| l.starts_with("logic=")) {
-                None if all => {
-                    let text = "no verdict of rt stands here";
-                    self.problems.push(Problem::new(&path, 0, text));
-                }
-                None => left_out.push(krate.name.as_str()),
-                Some((index, line)) => {
-                    read += 1;
-                    let problem = axioms(line).map(|text| Problem::new(&path, index + 1, text));
-                    self.problems.extend(problem);
-                }
-            }
-        }
-        self.notes
-            .push(format!("rt's log: {read} libraries, no axiom"));
-        if !left_out.is_empty() {
-            let names = left_out.join(" ");
-            let note = format!("left out, since target/log has no verdict of them: {names}");
-            self.notes.push(note);
+        let found = log::read(project);
+        self.problems.extend(found.problems);
+        self.notes.push(format!(
+            "rt's logs: {} verdicts with nothing assumed, {} crates as an earlier rt ci proved them",
+            found.read, found.kept
+        ));
+        if all {
+            self.problems.extend(found.lacking);
+        } else {
+            let lacking = found.lacking.iter();
+            self.notes.extend(lacking.map(|p| format!("left out: {p}")));
         }
     }
 }
@@ -182,33 +200,23 @@ fn assumed(file: &antt::File) -> Vec<Problem> {
         .collect()
 }
 
+/// The kit's libraries of C functions, whose contracts are taken as they are written.
+const C: [&str; 2] = ["libc", "os"];
+
+/// The attribute of an exported function: it claims only that its name is no other's.
+const EXPORTED: &str = "#[unsafe(no_mangle)]";
+
 /// Foreign functions, whose contracts nothing proves, and `unsafe`.
 fn foreign(file: &rt::File) -> Vec<Problem> {
     let mut found = Vec::new();
     for (index, line) in file.lines.iter().enumerate() {
-        let code = rt::code(line).trim();
+        let code = rt::code(line).replace(EXPORTED, "");
+        let code = code.trim();
         let block = code.starts_with("extern ") || code.starts_with("pub extern \"C\" {");
-        if block || code.split_whitespace().any(|w| w == "unsafe") {
+        if block || words(code, index + 1).iter().any(|w| w.text == "unsafe") {
             let text = "a form that nothing proves".to_string();
             found.push(Problem::new(&file.path, index + 1, text));
         }
     }
     found
-}
-
-/// What is wrong with a verdict's line; none where it is proved with nothing assumed.
-fn axioms(verdict: &str) -> Option<String> {
-    let words: Vec<&str> = verdict.split_whitespace().collect();
-    if words.first() != Some(&"logic=proved") {
-        return Some("isn't proved".to_string());
-    }
-    let assumed = |w: &&&str| {
-        ["axioms=", "foreign=", "holes="]
-            .iter()
-            .any(|p| w.starts_with(p))
-    };
-    words
-        .iter()
-        .find(assumed)
-        .map(|w| format!("assumes something: {w}"))
 }

@@ -1,9 +1,10 @@
 //! Expressions: the names that they say, and what `λ`, `let`, `(x : A) →` and `record` bind on the way.
 
+use crate::kit::HOLE;
 use crate::lex::{Kind, Token};
 use crate::walk::{Name, Walk};
 
-const SYNTAX: [&str; 5] = ["→", "×", "↔", "Type", "_"];
+const SYNTAX: [&str; 4] = ["→", "×", "Type", "_"];
 
 /// Words of the language that have no meaning where a name may stand, or one that isn't read.
 pub(crate) const UNREAD: [&str; 25] = [
@@ -90,7 +91,7 @@ impl<'a> Walk<'a> {
     fn is_bound(&self, name: &str) -> bool {
         self.bound
             .iter()
-            .any(|b| b == name || (b.contains('_') && b.split('_').any(|part| part == name)))
+            .any(|b| b == name || (b.contains(HOLE) && b.split(HOLE).any(|part| part == name)))
     }
 
     fn group(&mut self) {
@@ -160,9 +161,15 @@ impl<'a> Walk<'a> {
         self.bound.extend(names);
     }
 
-    /// `record { x = e; y = e }`, or the type `record { x : A; y : B }`.
+    /// `record { x = e; y = e }`, `record r { x = e }`, which has the other fields of r (a name, or a term
+    /// in brackets), or the type `record { x : A; y : B }`.
     fn record(&mut self) {
         let bound = self.bound.len();
+        match self.peek() {
+            Some(token) if token.is("(") => self.group(),
+            Some(token) if token.is_name() => self.name(),
+            _ => {}
+        }
         self.take("{");
         while self.peek().is_some_and(Token::is_name) {
             let label = &self.tokens[self.at];

@@ -9,6 +9,7 @@ pub mod header;
 pub mod kit;
 pub mod known;
 pub mod lex;
+pub mod log;
 pub mod order;
 pub mod patterns;
 pub mod print;

@@ -5,7 +5,7 @@ use std::io::{self, Write};
 use std::path::{Path, PathBuf};
 use std::process::ExitCode;
 
-use lanegravel_audit::check::{self, Report};
+use lanegravel_audit::check::{self, Part, Report};
 use lanegravel_audit::header;
 use lanegravel_audit::print;
 use lanegravel_audit::problem::Problem;
@@ -19,8 +19,11 @@ audit: what a reader of the exported contracts has to believe
   ./audit --index [CALL..]     names and places alone, and the count
   ./audit --check              see that docs/PROMISES.md and docs/AUDIT.md name what is there, that every
                                exported function has an `ensures` and no `requires`, and that nothing is
-                               assumed: no hole, axiom or foreign function, none in rt's log
-  ./audit --logs               the same of rt's log alone, behind `rt ci`: a verdict of every library
+                               assumed: no hole, axiom or foreign function, none in rt's logs
+  ./audit --check=PART         one of these alone: documents, exported, sources
+  ./audit --logs               rt's logs alone, build/rt/, as ./test keeps them: every library has a verdict in
+                               what `rt ci` printed, or is said there to be kept from an earlier run, every
+                               static library has one of its build, and none assumes anything
   ./audit --help               print this
 
 A CALL is `detect` or `lanegravel_detect`. What is printed, in reading order: each call's declaration
@@ -38,7 +41,7 @@ struct Options {
     root: PathBuf,
     top: bool,
     index: bool,
-    check: bool,
+    check: Vec<Part>,
     logs: bool,
     calls: Vec<String>,
 }
@@ -52,9 +55,10 @@ fn main() -> ExitCode {
             }
             "--top" => options.top = true,
             "--index" => options.index = true,
-            "--check" => options.check = true,
+            "--check" => options.check.extend(check::PARTS.map(|(_, part)| part)),
             "--logs" => options.logs = true,
             other if other.starts_with("--root=") => options.root = other[7..].into(),
+            other if part(other).is_some() => options.check.extend(part(other)),
             other if other.starts_with('-') => {
                 eprintln!("audit: unknown argument {other}; --help says which there are");
                 return ExitCode::FAILURE;
@@ -73,6 +77,13 @@ fn main() -> ExitCode {
     }
 }
 
+/// The part of `--check=PART`.
+fn part(argument: &str) -> Option<Part> {
+    let name = argument.strip_prefix("--check=")?;
+    let found = check::PARTS.iter().find(|(n, _)| *n == name)?;
+    Some(found.1)
+}
+
 fn write(text: &str) -> ExitCode {
     match io::stdout().write_all(text.as_bytes()) {
         Err(error) if error.kind() != io::ErrorKind::BrokenPipe => {
@@ -89,8 +100,9 @@ fn run(options: &Options) -> Result<String, Vec<Problem>> {
     if options.logs {
         return told(check::logs(&project));
     }
-    if options.check {
-        return told(check::check(&project, &all).map_err(|p| vec![p])?);
+    if !options.check.is_empty() {
+        let report = check::check(&project, &all, &options.check);
+        return told(report.map_err(|p| vec![p])?);
     }
     let calls = chosen(&project, all, &options.calls)?;
     let reached = reach::reach(&project, &calls);

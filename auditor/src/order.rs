@@ -62,7 +62,7 @@ fn rank<'a>(krate: &'a Crate, module: &str, ranks: &mut BTreeMap<&'a str, usize>
     if ranks.contains_key(module.as_str()) {
         return;
     }
-    let own = format!("Rattle·{}·specs.specs.", krate.name);
+    let own = format!("Rattle.{}.specs.", krate.name);
     for used in &file.uses {
         if let Some(below) = used.module.strip_prefix(&own) {
             rank(krate, below, ranks);

@@ -8,6 +8,7 @@ use std::path::Path;
 use crate::check::{HEADER, PROMISES};
 use crate::docs::{self, Thing};
 use crate::header;
+use crate::log;
 use crate::order;
 use crate::problem::Problem;
 use crate::project::{Project, read_text};
@@ -278,12 +279,12 @@ that they speak of, and its compiler. Of the caller: what the first comment of i
 of lists, floats and the stack.
 ",
     );
-    let log = fs::read_to_string(project.root.join("target/log/lanegravel.out"));
-    let log = log.unwrap_or_default();
-    let verdict = log.lines().find(|l| l.starts_with("logic="));
+    let path = log::of_library("lanegravel");
+    let text = fs::read_to_string(project.root.join(&path)).unwrap_or_default();
+    let verdict = text.lines().rfind(|l| l.starts_with("logic="));
     let _ = match verdict {
-        Some(line) => writeln!(out, "rt of lanegravel: {line}"),
-        None => writeln!(out, "rt of lanegravel: no verdict stands in target/log"),
+        Some(line) => writeln!(out, "rt of lanegravel, when it was last built: {line}"),
+        None => writeln!(out, "rt of lanegravel: no verdict stands in {path}"),
     };
 }
 

@@ -10,6 +10,10 @@ use crate::rt;
 
 pub struct Crate {
     pub name: String,
+    /// whether crates.txt builds it as a static library
+    pub is_static: bool,
+    /// the libraries that it uses, of the repository and of the kit
+    pub uses: Vec<String>,
     /// the files of specs/ by module, `Closed` or `A.B`, and those of proofs/
     pub specs: BTreeMap<String, antt::File>,
     pub proofs: BTreeMap<String, antt::File>,
@@ -33,7 +37,7 @@ impl Project {
             .map(|line| line.split('#').next().unwrap_or(""))
             .filter_map(|line| line.split_once(':'));
         let crates = names
-            .map(|(name, _)| read_crate(root, name.trim()))
+            .map(|(head, uses)| read_crate(root, head, uses))
             .collect::<Result<_, _>>()?;
         Ok(Project {
             root: root.to_path_buf(),
@@ -46,13 +50,24 @@ impl Project {
     }
 }
 
+impl Crate {
+    pub fn is_program(&self) -> bool {
+        let root = self.sources.get("");
+        root.is_some_and(|f| f.path.ends_with("main.rt"))
+    }
+}
+
 /// A file of the repository, by its path from the root.
 pub fn read_text(root: &Path, path: &Path) -> Result<String, Problem> {
     fs::read_to_string(root.join(path))
         .map_err(|error| Problem::new(&path.display().to_string(), 0, error.to_string()))
 }
 
-fn read_crate(root: &Path, name: &str) -> Result<Crate, Problem> {
+/// A crate by its line of crates.txt, `name staticlib: low io`: the words before the colon, the first of
+/// which is its name, and the libraries that it uses.
+fn read_crate(root: &Path, head: &str, uses: &str) -> Result<Crate, Problem> {
+    let mut words = head.split_whitespace();
+    let name = words.next().unwrap_or("");
     let folder = Path::new("crates").join(name);
     let antt = |part: &str| {
         let files = files_below(root, &folder.join(part), "antt");
@@ -73,6 +88,8 @@ fn read_crate(root: &Path, name: &str) -> Result<Crate, Problem> {
     let edits = files_below(root, &folder.join("must-fail"), "edit");
     Ok(Crate {
         name: name.to_string(),
+        is_static: words.any(|w| w == "staticlib"),
+        uses: uses.split_whitespace().map(str::to_string).collect(),
         specs: antt("specs")?,
         proofs: antt("proofs")?,
         sources: sources

@@ -96,10 +96,12 @@ impl Reached {
             clause: true,
         };
         let is_constructor = |name: &str| project.is_constructor(&scope, name);
-        let tokens = &function.ensures;
-        let said = walk::clause(&file.path, tokens, &function.parameters, &is_constructor);
-        let mut named = self.resolve(project, &scope, &file.path, said);
-        named.extend(self.paths(project, call.krate, file, &function.types));
+        let mut named = self.paths(project, call.krate, file, &function.types);
+        for clause in &function.ensures {
+            let tokens = &clause.tokens;
+            let said = walk::clause(&file.path, tokens, &function.parameters, &is_constructor);
+            named.extend(self.resolve(project, &scope, &file.path, said));
+        }
         named
     }
 

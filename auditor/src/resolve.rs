@@ -63,9 +63,8 @@ impl Project {
         if kit::is_kit(path) {
             return Ok(Module::Kit);
         }
-        let rest = path.strip_prefix("Rattle·").ok_or_else(unknown)?;
-        let (library, rest) = rest.split_once('.').ok_or_else(unknown)?;
-        let name = library.split('·').next().unwrap_or("");
+        let rest = path.strip_prefix("Rattle.").ok_or_else(unknown)?;
+        let (name, rest) = rest.split_once('.').ok_or_else(unknown)?;
         let krate = self.find(name).ok_or_else(unknown)?;
         if let Some(declared) = rest.strip_prefix("specs.declared.") {
             return self.declared(krate, declared).ok_or_else(unknown);
@@ -79,9 +78,9 @@ impl Project {
         Ok(Module::File(krate, part, module.to_string(), file))
     }
 
-    /// `sides.Sides`, made from the struct of that name in src/sides.rt; `the-variants` may follow.
+    /// `sides.Sides`, made from the struct of that name in src/sides.rt; `TheVariants` may follow.
     fn declared(&self, krate: usize, path: &str) -> Option<Module<'_>> {
-        let path = path.strip_suffix(".the-variants").unwrap_or(path);
+        let path = path.strip_suffix(".TheVariants").unwrap_or(path);
         let (module, name) = path.rsplit_once('.').unwrap_or(("", path));
         let id = self.struct_in(krate, &module.replace('.', "::"), name)?;
         let declared = &self.source(&id).structs[id.index];

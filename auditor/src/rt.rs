@@ -20,9 +20,19 @@ pub struct Struct {
     pub types: Vec<(Vec<String>, usize)>,
 }
 
+/// A clause, `ensures name { .. }`, or `ensures* { .. }` of what is said of memory.
+#[derive(Debug)]
+pub struct Clause {
+    pub name: Option<String>,
+    pub starred: bool,
+    /// what stands in its braces
+    pub tokens: Vec<Token>,
+}
+
 #[derive(Debug, Default)]
 pub struct Function {
     pub name: String,
+    /// whether C can call it
     pub exported: bool,
     pub comment: usize,
     pub first: usize,
@@ -30,9 +40,10 @@ pub struct Function {
     pub last: usize,
     pub parameters: Vec<String>,
     pub types: Vec<(Vec<String>, usize)>,
-    pub requires: Vec<Token>,
-    pub ensures: Vec<Token>,
-    pub has_requires: bool,
+    pub requires: Vec<Clause>,
+    pub ensures: Vec<Clause>,
+    /// the first line among its clauses that isn't one of these, as a `ghost` clause
+    pub unread: Option<usize>,
 }
 
 #[derive(Debug, Default)]
@@ -171,9 +182,11 @@ impl File {
         let text = self.lines[clauses - 1..last].join("\n");
         let tokens = lex(&text, clauses).map_err(|(at, what)| self.problem(at, &what))?;
         let name = 1 + words.iter().position(|w| w.text == "fn").unwrap_or(0);
+        let attributes = &self.lines[first - 1..line];
+        let named = attributes.iter().any(|l| code(l).contains("no_mangle"));
         let mut function = Function {
             name: words.get(name).map_or(String::new(), |w| w.text.clone()),
-            exported: words.iter().any(|w| w.text == "extern"),
+            exported: named || words.iter().any(|w| w.text == "extern"),
             comment,
             first,
             last,
@@ -192,15 +205,14 @@ impl File {
         let mut clauses = None;
         for i in line..=self.lines.len() {
             let text = code(&self.lines[i - 1]);
-            let start = text.trim_start();
-            if start.starts_with("requires ") || start.starts_with("ensures ") {
+            if CLAUSES.contains(&first_word(text)) {
                 clauses.get_or_insert(i);
             }
             match clauses {
                 Some(clauses) if text.trim() == "{" && self::indent(text) == indent => {
                     return (clauses, i - 1);
                 }
-                None if text.trim_end().ends_with('{') => return (i + 1, i),
+                None if text.trim_end().ends_with(['{', ';']) => return (i + 1, i),
                 _ => {}
             }
         }
@@ -212,24 +224,51 @@ fn indent(line: &str) -> usize {
     line.len() - line.trim_start().len()
 }
 
-/// The tokens in the braces of each clause.
+/// The words that a clause begins with.
+const CLAUSES: [&str; 5] = ["requires", "requires*", "ensures", "ensures*", "ghost"];
+
+fn first_word(line: &str) -> &str {
+    line.split_whitespace().next().unwrap_or("")
+}
+
+/// The clauses, each with its name and what stands in its braces.
 fn read_clauses(tokens: Vec<Token>, function: &mut Function) {
-    let mut depth = 0;
-    let mut ensures = false;
-    for token in tokens {
-        if depth == 0 && (token.is("requires") || token.is("ensures")) {
-            ensures = token.is("ensures");
-            function.has_requires |= !ensures;
-            continue;
+    let mut rest = tokens.as_slice();
+    while let Some(first) = rest.first() {
+        let kind = first.text.strip_suffix('*').unwrap_or(&first.text);
+        let named = rest.get(1).filter(|t| t.is_name());
+        let open = 1 + usize::from(named.is_some());
+        let long = closed(rest, open).filter(|_| kind == "requires" || kind == "ensures");
+        let Some(long) = long else {
+            function.unread = Some(first.line);
+            // asked or not, such a function may not count as one that asks nothing
+            return;
+        };
+        let clause = Clause {
+            name: named.map(|t| t.text.clone()),
+            starred: first.text.ends_with('*'),
+            tokens: rest[open + 1..long - 1].to_vec(),
+        };
+        match kind {
+            "ensures" => function.ensures.push(clause),
+            _ => function.requires.push(clause),
         }
+        rest = &rest[long..];
+    }
+}
+
+/// How many tokens there are up to the brace that closes the one at a place.
+fn closed(tokens: &[Token], open: usize) -> Option<usize> {
+    let mut depth = 0;
+    for (at, token) in tokens.iter().enumerate().skip(open) {
         depth += i32::from(token.is("{")) - i32::from(token.is("}"));
-        let outer = (depth == 1 && token.is("{")) || (depth == 0 && token.is("}"));
-        match ensures {
-            _ if outer => {}
-            true => function.ensures.push(token),
-            false => function.requires.push(token),
+        match depth {
+            0 if token.is("}") => return Some(at + 1),
+            0 => return None,
+            _ => {}
         }
     }
+    None
 }
 
 /// Name, fields, variants and types of a struct or an enum, from its words.

@@ -1,6 +1,7 @@
 //! The names that a declaration or a clause says, less those that it binds itself.
 
 use crate::antt::{File, Form, Span};
+use crate::kit;
 use crate::lex::Token;
 use crate::problem::Problem;
 
@@ -66,7 +67,7 @@ pub fn declaration(file: &File, index: usize, is_constructor: &dyn Fn(&str) -> b
     walk.said
 }
 
-/// What a contract's clause says of the given parameters.
+/// What an `ensures` says of the given parameters and of the result.
 pub fn clause(
     path: &str,
     tokens: &[Token],
@@ -75,6 +76,7 @@ pub fn clause(
 ) -> Said {
     let mut walk = Walk::new(path, tokens, is_constructor);
     walk.bound.extend(parameters.iter().cloned());
+    walk.bound.push(kit::RESULT.to_string());
     walk.within(0..tokens.len(), |w| w.expression(&[]));
     walk.said
 }

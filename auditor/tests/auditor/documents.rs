@@ -19,7 +19,7 @@ fn repository() -> Repository {
             "pub struct Page {\n    pub w: u32,\n}\n",
         ),
         ("crates/low/specs/Low.antt", SPECS),
-        ("crates/low/proofs/Laws.antt", "pub f-is : R\nf-is = f\n"),
+        ("crates/low/proofs/Laws.antt", "pub f_is : R\nf_is = f\n"),
         ("crates/low/must-fail/one_too_many.edit", ""),
         (
             "tests/differential/driver/src/main.rs",
@@ -42,11 +42,12 @@ fn faults(text: &str) -> Vec<String> {
 fn what_is_there_has_no_fault() {
     for text in [
         "`low` Low: `R`, `f`; page.rt: `Page`",
-        "`low` Low: `R .x`, fields `x`; law `f-is`",
-        "`run` (`R .x`, `.x`), `low::run`, laws `f-is` and `f`",
+        "`low` Low: `R .x`, fields `x`; law `f_is`",
+        "`run` (`R .x`, `.x`), `low::run`, laws `f_is` and `f`",
         "edits one_too_many, one_too_many (`low`); runs",
         "`tests/differential/run --only gap --seed 2`, `--only gap_sets`",
-        "`low` Laws: `f-is`. `crates/low`, `low/specs`, `lib.Ieee`, `rt must-fail low`",
+        "`low` Laws: `f_is`. `crates/low`, `low/specs`, `lib.Ieee`, `rt must-fail low`",
+        "`Rattle.std.specs.Prelude`",
     ] {
         assert_eq!(faults(text), [""; 0], "{text}");
     }
@@ -63,9 +64,14 @@ fn what_is_not_there_is_told() {
             "`low` Low: `R`, fields `x`, `z`",
             "no record `R` has a field `.z`",
         ),
-        ("law `g-is`", "there is no law or definition `g-is`"),
+        ("law `g_is`", "there is no law or definition `g_is`"),
+        ("law `f-is`", "there is no law or definition `f-is`"),
         ("law `run`", "there is no law or definition `run`"),
         ("`low::walk`", "nothing here is called `low::walk`"),
+        (
+            "`Rattle.other.specs.Low`",
+            "nothing here is called `Rattle.other.specs.Low`",
+        ),
         (
             "`--only other`",
             "no differential run has other in its name",

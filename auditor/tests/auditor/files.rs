@@ -11,8 +11,19 @@ fn texts(text: &str) -> Vec<String> {
 #[test]
 fn a_name_ends_at_a_space_or_a_mark() {
     assert_eq!(
-        texts("f n+n (x∷xs) .a"),
-        ["f", "n+n", "(", "x∷xs", ")", ".", "a"]
+        texts("f n+n (x∷xs).a ◌+ℤ◌ x' the_row"),
+        [
+            "f",
+            "n+n",
+            "(",
+            "x∷xs",
+            ")",
+            ".",
+            "a",
+            "◌+ℤ◌",
+            "x'",
+            "the_row"
+        ]
     );
     assert_eq!(texts("a -- b\nc --d"), ["a", "c"]);
     assert_eq!(texts("a {- b {- c -} d -} e"), ["a", "e"]);
@@ -36,7 +47,7 @@ fn what_is_not_closed_is_told() {
 const FILE: &str = "\
 -- A file.
 use lib.A.{a, b as c, D.e}
-use Rattle·x.specs.Y as Z
+use Rattle.x.specs.Y as Z
 pub use lib.B.{f}
 
 -- The first
@@ -61,6 +72,8 @@ module _ (g : R) where
 pub data D : Type 0 where
   here there : D
 axiom pub bad : ℕ
+pattern abbrev pub three : ℕ
+three = suc two
 ";
 
 #[test]
@@ -80,6 +93,7 @@ fn declarations_have_their_lines_and_members() {
             ("two", Form::Definition, 20, 21, 23),
             ("D", Form::Data, 25, 25, 26),
             ("bad", Form::Axiom, 27, 27, 27),
+            ("three", Form::Definition, 28, 28, 29),
         ]
     );
     let members = |i: usize| -> Vec<&str> {
@@ -113,7 +127,7 @@ fn use_lines_bring_names_and_modules() {
             ("lib.A", Some("a"), "a", false),
             ("lib.A", Some("b"), "c", false),
             ("lib.A.D", Some("e"), "e", false),
-            ("Rattle·x.specs.Y", None, "Z", false),
+            ("Rattle.x.specs.Y", None, "Z", false),
             ("lib.B", Some("f"), "f", true),
         ]
     );

@@ -2,6 +2,7 @@
 
 mod documents;
 mod files;
+mod logs;
 mod reaching;
 mod sources;
 mod walking;

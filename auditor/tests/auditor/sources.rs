@@ -24,21 +24,28 @@ enum Shape {
 }
 
 // The call.
-#[no_mangle]
+#[unsafe(no_mangle)]
 pub extern \"C\" fn call(
     p: Pair,
     out: &mut [low::Side],
 ) -> u32
-    requires { ⌜ p .x ≡ 1 ⌝ }
-    ensures { λ r.
-        ⌜ a (record {
-        x = r }) ⌝ }
+    requires { p.x ≡ 1 }
+    ensures same { a (record {
+        x = result }) }
+    ensures* kept { ⌜ b ⌝ }
 {
     call2(p)
 }
 
 fn plain(a: u32) -> u32 {
     a
+}
+
+#[unsafe(no_mangle)]
+fn shared(n: usize)
+    ghost top: { ℕ }
+    ensures { n ≤ top }
+{
 }
 ";
 
@@ -64,17 +71,28 @@ fn structs_have_fields_variants_and_types() {
 #[test]
 fn functions_have_their_clauses() {
     let file = read("s.rt", SOURCE).expect("a file");
-    let [call, plain] = file.functions.as_slice() else {
+    let [call, plain, shared] = file.functions.as_slice() else {
         panic!("{:?}", file.functions)
     };
-    assert!(call.exported && call.has_requires && !plain.exported && !plain.has_requires);
+    assert!(call.exported && !plain.exported && shared.exported);
     assert_eq!((call.comment, call.first, call.last), (20, 21, 29));
     assert_eq!(call.parameters, ["p", "out"]);
-    let ensures: Vec<&str> = call.ensures.iter().map(|t| t.text.as_str()).collect();
-    assert_eq!(&ensures[..4], ["λ", "r", ".", "⌜"]);
-    assert_eq!(ensures.last(), Some(&"⌝"));
-    assert_eq!(call.ensures[0].line, 27);
-    assert!(plain.ensures.is_empty());
+    assert_eq!(call.requires.len(), 1);
+    assert_eq!(call.requires[0].name, None);
+    let [same, kept] = call.ensures.as_slice() else {
+        panic!("{:?}", call.ensures)
+    };
+    assert_eq!(same.name.as_deref(), Some("same"));
+    assert!(!same.starred && kept.starred);
+    let texts: Vec<&str> = same.tokens.iter().map(|t| t.text.as_str()).collect();
+    assert_eq!(
+        texts,
+        ["a", "(", "record", "{", "x", "=", "result", "}", ")"]
+    );
+    assert_eq!(same.tokens[0].line, 27);
+    assert_eq!(kept.tokens.len(), 3);
+    assert!(plain.requires.is_empty() && plain.ensures.is_empty());
+    assert_eq!((call.unread, shared.unread), (None, Some(40)));
 }
 
 const HEADER: &str = "\

@@ -48,7 +48,7 @@ fn a_block_binds_its_parameters() {
 
 #[test]
 fn labels_and_projections_are_fields() {
-    let said = said("f : A → B\nf a = record { x = a .y .0; z = M.w a }\n");
+    let said = said("f : A → B\nf a = record { x = (a).y .0; z = M.w a }\n");
     let fields: Vec<&str> = said.fields.iter().map(|(f, _)| f.as_str()).collect();
     assert_eq!(fields, ["y", "0", "x", "z"]);
     assert_eq!(said.names.last().expect("a name").path, ["M", "w"]);
@@ -59,6 +59,28 @@ fn a_tight_dot_behind_a_variable_projects() {
     let said = said("f : A → B\nf a = a.x\n");
     assert_eq!(said.fields, [("x".to_string(), 2)]);
     assert_eq!(said.names.len(), 2);
+}
+
+#[test]
+fn a_record_with_the_fields_of_another_says_that_one() {
+    assert_eq!(
+        names("f : A → B\nf a = h record a { x = g } (record (k a) { y = a })\n"),
+        ["A", "B", "h", "g", "k"]
+    );
+    assert_eq!(names("f : A\nf = record b { x = g }\n"), ["A", "b", "g"]);
+}
+
+#[test]
+fn only_a_circle_parts_an_operator() {
+    assert_eq!(
+        names("f : (◌+◌ : A) → B\nf every_below = every + below\n"),
+        ["A", "B", "every", "+", "below"]
+    );
+    assert_eq!(
+        names("f : (◌+◌ : A) (every_below : A) → x + y\n"),
+        ["A", "A", "x", "y"]
+    );
+    assert_eq!(names("f : (every_below : A) → every\n"), ["A", "every"]);
 }
 
 #[test]

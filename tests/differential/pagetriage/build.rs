@@ -1,13 +1,13 @@
-//! Lays out the tree that src/lib.rs compiles: a link to each file of the Rust, unchanged, a link
-//! to each shim, and what is missing and only has to be there. Nothing is made where a file of the
-//! Rust stands: neither a link nor a new file goes over another.
+//! Lays out the tree that src/lib.rs compiles: a copy of each file of the Rust, unchanged, a copy
+//! of each shim, and what is missing and only has to be there. Nothing is made where a file of the
+//! Rust stands: neither a copy nor a new file goes over another. (No links: rt ci refuses a checkout
+//! that has one, also below the folders that cargo makes.)
 
 use std::error::Error;
 use std::fs::File;
 use std::io::Write;
-use std::os::unix::fs::symlink;
 use std::path::{Path, PathBuf};
-use std::{env, fs};
+use std::{env, fs, io};
 
 /// Files of pixel/mod.rs that are not at hand, with the settings that params.rs names in each.
 const ABSENT_MODULES: [(&str, Option<&str>); 13] = [
@@ -39,8 +39,8 @@ fn main() -> Result<(), Box<dyn Error>> {
         fs::remove_dir_all(&tree)?;
     }
     let src = tree.join("src");
-    link(&rust, &src)?;
-    link(
+    copy(&rust, &src)?;
+    copy(
         &Path::new(&env::var("CARGO_MANIFEST_DIR")?).join("shims"),
         &src,
     )?;
@@ -68,17 +68,17 @@ fn write_empty_defaults(params: &str, dir: &Path) -> Result<(), Box<dyn Error>> 
     Ok(())
 }
 
-/// Links each file below `from` to the same place below `to`.
-fn link(from: &Path, to: &Path) -> Result<(), Box<dyn Error>> {
+/// Copies each file below `from` to the same place below `to`.
+fn copy(from: &Path, to: &Path) -> Result<(), Box<dyn Error>> {
     println!("cargo::rerun-if-changed={}", from.display());
     fs::create_dir_all(to)?;
     for entry in fs::read_dir(from)? {
         let entry = entry?;
         let (path, place) = (entry.path(), to.join(entry.file_name()));
         if path.is_dir() {
-            link(&path, &place)?;
+            copy(&path, &place)?;
         } else {
-            symlink(&path, &place)?;
+            io::copy(&mut File::open(&path)?, &mut File::create_new(&place)?)?;
         }
     }
     Ok(())
