@@ -8,7 +8,7 @@ use read_findings::FindingAt;
 
 // 1 and the finding's numbers, or all 0 where there is none.
 #[repr(C)]
-#[derive(Drop)]
+#[derive(Clone, Copy)]
 pub struct FindingAtAnswer {
     pub found: u32,
     pub kind: u32,

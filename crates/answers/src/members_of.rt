@@ -3,7 +3,7 @@ ghost use Rattle.answers.specs.MembersOf.{PartOf};
 
 // A part of the member list: where it starts, and how many entries it has.
 #[repr(C)]
-#[derive(Drop)]
+#[derive(Clone, Copy)]
 pub struct MembersOfAnswer {
     pub start: usize,
     pub count: usize,

@@ -8,7 +8,7 @@ use rects::Rect;
 
 // The number of the first missed question, and the page rectangle, all 0 on refusal.
 #[repr(C)]
-#[derive(Drop)]
+#[derive(Clone, Copy)]
 pub struct RectToPageAnswer {
     pub number: u32,
     pub x0: u32,

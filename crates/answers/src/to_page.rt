@@ -8,7 +8,7 @@ use layout::sides::Sides;
 
 // The number of the first missed question, and the page place, 0 and 0 on refusal.
 #[repr(C)]
-#[derive(Drop)]
+#[derive(Clone, Copy)]
 pub struct ToPageAnswer {
     pub number: u32,
     pub x: i64,

@@ -9,7 +9,7 @@ use params::settings::RulingsParams;
 
 // The number of the first missed question, 0 where the page is accepted, and the number of boxes.
 #[repr(C)]
-#[derive(Drop)]
+#[derive(Clone, Copy)]
 pub struct Answer {
     pub number: u32,
     pub count: usize,

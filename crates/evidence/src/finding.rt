@@ -5,7 +5,7 @@ ghost use Rattle.evidence.specs.Finding.{fold_number, row_of, finite_evidence, f
 use layout::rect::PageRect;
 
 // A value, the threshold that it is held against, and its clamped log likelihood ratio.
-#[derive(Drop)]
+#[derive(Clone, Copy)]
 pub struct Evidence {
     pub value: f64,
     pub threshold: f64,
@@ -14,7 +14,7 @@ pub struct Evidence {
 
 // What each kind has of its own. The value of the second evidence is a table's joined share, the free rules' mean contrast, a
 // grid's mean edge coverage.
-#[derive(Drop)]
+#[derive(Clone, Copy)]
 pub enum Kind {
     Table {
         rows: u32,
@@ -40,7 +40,7 @@ pub enum Kind {
 }
 
 // Log odds, rectangle on the page, first evidence, and what its kind has.
-#[derive(Drop)]
+#[derive(Clone, Copy)]
 pub struct Finding {
     pub log_odds: f64,
     pub bbox: PageRect,
@@ -49,7 +49,7 @@ pub struct Finding {
 }
 
 // A finding as numbers, as the lists of findings hold it.
-#[derive(Drop)]
+#[derive(Clone, Copy)]
 pub struct Row {
     pub bbox: PageRect,
     pub kind: u32,

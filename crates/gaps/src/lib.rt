@@ -57,7 +57,7 @@ pub fn room(n: usize, a: usize, b: usize, c: usize, d: usize) -> bool
 
 // 0 where a call is accepted and 1 where it is refused, and the number of sets.
 #[repr(C)]
-#[derive(Drop)]
+#[derive(Clone, Copy)]
 pub struct Answer {
     pub number: u32,
     pub count: usize,

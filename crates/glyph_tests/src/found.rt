@@ -9,14 +9,14 @@ use crate::limits::Limits;
 use rects::Rect;
 
 // A hollow square: its frame, 1 where it is ticked and 0 where it is empty, and the least of its four edge shares.
-#[derive(Drop)]
+#[derive(Clone, Copy)]
 pub struct CheckBox {
     pub bbox: Rect,
     pub mark: u32,
     pub edge_coverage: f64,
 }
 
-#[derive(Drop)]
+#[derive(Clone, Copy)]
 pub enum Found {
     PassedOver,
     Box(CheckBox),

@@ -6,7 +6,7 @@ ghost use Rattle.glyph_tests.specs.Steps.{framed_of};
 
 use rects::Rect;
 
-#[derive(Drop)]
+#[derive(Clone, Copy)]
 pub enum Framed {
     Nothing,
     Frame(Rect),

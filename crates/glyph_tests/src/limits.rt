@@ -4,7 +4,7 @@ ghost use Rattle.glyph_tests.specs.Limits.{box_limits_of};
 
 use params::settings::RulingsParams;
 
-#[derive(Drop)]
+#[derive(Clone, Copy)]
 pub struct Limits {
     pub min_size: f64,
     pub slack: f64,

@@ -18,7 +18,7 @@ pub fn limit(p: RulingsParams, xheight: f64) -> u64
 }
 
 // How many sets and grids there are.
-#[derive(Drop)]
+#[derive(Clone, Copy)]
 pub struct Counts {
     pub sets: usize,
     pub grids: usize,

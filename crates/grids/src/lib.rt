@@ -11,7 +11,7 @@ use params::settings::RulingsParams;
 
 // The number of the first missed question, 0 where none is, and how many sets and grids there are.
 #[repr(C)]
-#[derive(Drop)]
+#[derive(Clone, Copy)]
 pub struct Answer {
     pub number: u32,
     pub sets: usize,

@@ -12,7 +12,7 @@ use ink::read;
 use rects::Rect;
 
 // The ink in four columns that stand side by side.
-#[derive(Drop)]
+#[derive(Clone, Copy)]
 struct Four {
     a: u32,
     b: u32,

@@ -68,7 +68,7 @@ fn passed_from_back(mask: &[u8], w: usize, r: Rect, rows: bool, limit: f64) -> u
 // The first line whose ink is over the limit, and the number of lines where none is.
 pub fn first_line(mask: &[u8], w: usize, r: Rect, rows: bool, limit: f64) -> u32
     requires { Readable mask.now w r }
-    ensures* { λ k. ⌜ k ≡ first_place (λ k. over limit (line_ink (ink_at w mask.now) r rows k)) (lines_of r rows) ⌝ }
+    ensures { result ≡ first_place (λ k. over limit (line_ink (ink_at w mask.now) r rows k)) (lines_of r rows) }
 {
     let n = lines_of(r, rows);
     let mut k = passed_from_front(mask, w, r, rows, limit);
@@ -84,7 +84,7 @@ pub fn first_line(mask: &[u8], w: usize, r: Rect, rows: bool, limit: f64) -> u32
 // One more than the last line whose ink is over the limit, and 0 where none is.
 pub fn last_line_end(mask: &[u8], w: usize, r: Rect, rows: bool, limit: f64) -> u32
     requires { Readable mask.now w r }
-    ensures* { λ k. ⌜ k ≡ last_end (λ k. over limit (line_ink (ink_at w mask.now) r rows k)) (lines_of r rows) ⌝ }
+    ensures { result ≡ last_end (λ k. over limit (line_ink (ink_at w mask.now) r rows k)) (lines_of r rows) }
 {
     let mut end = passed_from_back(mask, w, r, rows, limit);
     while 0 < end {
@@ -100,7 +100,7 @@ pub fn last_line_end(mask: &[u8], w: usize, r: Rect, rows: bool, limit: f64) -> 
 // The longest unbroken run of lines that have ink.
 pub fn longest(mask: &[u8], w: usize, r: Rect, rows: bool) -> u32
     requires { Readable mask.now w r }
-    ensures* { λ k. ⌜ k ≡ longest_run (λ k. ltb 0 (line_ink (ink_at w mask.now) r rows k)) (lines_of r rows) ⌝ }
+    ensures { result ≡ longest_run (λ k. ltb 0 (line_ink (ink_at w mask.now) r rows k)) (lines_of r rows) }
 {
     let n = lines_of(r, rows);
     let mut best = 0;

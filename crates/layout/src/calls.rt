@@ -10,14 +10,14 @@ use crate::{page, sides, tables};
 use rects::Rect;
 
 // What `to_page` answers: a place, or the number of the first missed question.
-#[derive(Drop)]
+#[derive(Clone, Copy)]
 pub enum Mapped {
     Place(PagePlace),
     Refused(u32),
 }
 
 // What `rect_to_page` answers: a rectangle, or the number of the first missed question.
-#[derive(Drop)]
+#[derive(Clone, Copy)]
 pub enum MappedRect {
     Area(PageRect),
     RefusedArea(u32),

@@ -11,11 +11,11 @@ use crate::tables;
 use rects::Rect;
 
 // A place of the levelled picture: column and row.
-#[derive(Drop)]
+#[derive(Clone, Copy)]
 pub struct Levelled(pub u32, pub u32);
 
 // A place of the page, which in the levelled picture's padding lies outside the page.
-#[derive(Drop)]
+#[derive(Clone, Copy)]
 pub struct PagePlace(pub i64, pub i64);
 
 fn difference(a: usize, b: usize) -> i64

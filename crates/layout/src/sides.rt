@@ -3,7 +3,7 @@ ghost use Rattle.std.specs.Prelude.{◌≡◌, ◌≤◌};
 ghost use Rattle.layout.specs.Sides.{side_fits, levelled_sides_fit, sides_fit, raster_fits};
 
 // The page is pw by ph, and the levelled picture w by h.
-#[derive(Drop)]
+#[derive(Clone, Copy)]
 pub struct Sides {
     pub pw: usize,
     pub ph: usize,

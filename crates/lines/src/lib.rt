@@ -25,7 +25,7 @@ fn sorted_at(positions: &[u64], order: &[u32], i: usize) -> u64
 }
 
 // The line in hand: its number, and its last position.
-#[derive(Drop)]
+#[derive(Clone, Copy)]
 pub struct Line {
     pub number: u32,
     pub last: u64,

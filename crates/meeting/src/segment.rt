@@ -5,7 +5,7 @@ ghost use Rattle.rects.specs.Rects.{distance};
 ghost use Rattle.meeting.specs.Steps.{Given};
 
 // The span along the ruling, and twice its centre across, so that it stays whole.
-#[derive(Drop)]
+#[derive(Clone, Copy)]
 pub struct Segment {
     pub horizontal: bool,
     pub start: u32,

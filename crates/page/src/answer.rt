@@ -7,7 +7,7 @@ use crate::counts::Counts;
 // The number of the first missed question, 0 for none; then the counts, all 0 where one is missed. Of pieces there are as many sets as
 // rulings.
 #[repr(C)]
-#[derive(Drop)]
+#[derive(Clone, Copy)]
 pub struct Answer {
     pub number: u32,
     pub rulings: usize,

@@ -11,7 +11,7 @@ use page::counts::Counts;
 use params::settings::{FusionParams, RulingsParams};
 
 // How many findings there are, and whether every evidence number is finite.
-#[derive(Drop)]
+#[derive(Clone, Copy)]
 pub struct Found {
     pub count: usize,
     pub finite: bool,

@@ -6,7 +6,7 @@ ghost use Rattle.paper.specs.Steps.{Beside, Sampled};
 use rects::Rect;
 
 // Two runs of places, each given by its first and its number.
-#[derive(Drop)]
+#[derive(Clone, Copy)]
 pub struct Strips {
     pub first: usize,
     pub firsts: usize,
@@ -15,7 +15,7 @@ pub struct Strips {
 }
 
 // Pixels in some columns from x on and some rows from y on.
-#[derive(Drop)]
+#[derive(Clone, Copy)]
 pub struct Area {
     pub x: usize,
     pub columns: usize,
@@ -23,7 +23,7 @@ pub struct Area {
     pub rows: usize,
 }
 
-#[derive(Drop)]
+#[derive(Clone, Copy)]
 pub struct Areas {
     pub first: Area,
     pub second: Area,

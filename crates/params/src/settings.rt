@@ -2,7 +2,7 @@
 // in x-heights, one in `_in` in inches; the five counts are 32 bits wide.
 
 #[repr(C)]
-#[derive(Drop)]
+#[derive(Clone, Copy)]
 pub struct RulingsParams {
     pub merge_across_xh: f64,
     pub merge_gap_xh: f64,
@@ -38,7 +38,7 @@ pub struct RulingsParams {
 
 // The two of the Rust's `FusionParams` that bound the log odds.
 #[repr(C)]
-#[derive(Drop)]
+#[derive(Clone, Copy)]
 pub struct FusionParams {
     pub llr_clip: f64,
     pub group_cap: f64,

@@ -15,7 +15,7 @@ pub fn is_printed(p: RulingsParams, contrast: f64) -> bool
 }
 
 // How many rulings are printed, and how many faint.
-#[derive(Drop)]
+#[derive(Clone, Copy)]
 pub struct Parted {
     pub printed: usize,
     pub faint: usize,

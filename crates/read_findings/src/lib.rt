@@ -10,7 +10,7 @@ use evidence::finding::{Evidence, Finding, Kind, Row};
 use layout::rect::PageRect;
 
 // What stands at a place of the lists.
-#[derive(Drop)]
+#[derive(Clone, Copy)]
 pub enum FindingAt {
     Found(Finding),
     Nothing,

@@ -10,7 +10,7 @@ ghost use Rattle.rects.specs.Steps.{Places};
 
 // Both ends are inside.
 #[repr(C)]
-#[derive(Drop)]
+#[derive(Clone, Copy)]
 pub struct Rect {
     pub x0: u32,
     pub y0: u32,

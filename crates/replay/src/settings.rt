@@ -5,7 +5,7 @@ use std::io;
 use stored::{floats, words, written};
 
 // What a call is given, and the place past that.
-#[derive(Drop)]
+#[derive(Clone, Copy)]
 pub struct Given {
     pub w: usize,
     pub h: usize,

@@ -8,7 +8,7 @@ use std::io;
 use stored::{floats, settings, sides, words};
 
 // What a page gives by value, and the place past that.
-#[derive(Drop)]
+#[derive(Clone, Copy)]
 struct Asked {
     given: Given,
     next: usize,

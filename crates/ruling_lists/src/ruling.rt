@@ -8,7 +8,7 @@ ghost use Rattle.ruling_lists.specs.Steps.{Picture, RulingMade};
 use rects::Rect;
 
 // `horizontal` is the direction of its pieces, whatever shape the joined rectangle has.
-#[derive(Drop)]
+#[derive(Clone, Copy)]
 pub struct Ruling {
     pub rect: Rect,
     pub horizontal: bool,

@@ -5,7 +5,7 @@ ghost use Rattle.shapes.specs.Limits.{table_limits_of};
 
 use params::settings::RulingsParams;
 
-#[derive(Drop)]
+#[derive(Clone, Copy)]
 pub struct Limits {
     pub join: u64,
     pub cluster: u64,

@@ -44,7 +44,7 @@ fn collect(
 }
 
 // The rulings of a set in a direction, and the lines that they make.
-#[derive(Drop)]
+#[derive(Clone, Copy)]
 pub struct Count {
     pub rulings: usize,
     pub lines: usize,
@@ -82,7 +82,7 @@ fn is_table(limits: Limits, h: Count, v: Count) -> bool
 }
 
 // Is the set a table, and how many lines has it each way?
-#[derive(Drop)]
+#[derive(Clone, Copy)]
 pub struct Shape {
     pub table: bool,
     pub row_lines: usize,

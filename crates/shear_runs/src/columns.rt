@@ -22,7 +22,7 @@ pub fn run_end(table: &[i32], from: usize) -> usize
 }
 
 // Columns that are levelled together: where they end, and whether they are a run.
-#[derive(Drop)]
+#[derive(Clone, Copy)]
 pub struct Part {
     pub to: usize,
     pub run: bool,

@@ -5,7 +5,7 @@ use crate::given::Given;
 use crate::lend;
 
 // The number and the counts, as `counts` has them, and every list of the answer, whole.
-#[derive(Drop)]
+#[derive(Clone, Copy)]
 pub struct Found {
     pub counts: [usize; 11],
     pub levelled: [u8; 1024],

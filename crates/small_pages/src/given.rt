@@ -2,7 +2,7 @@
 use layout::sides::Sides;
 use params::settings::{FusionParams, RulingsParams};
 
-#[derive(Drop)]
+#[derive(Clone, Copy)]
 pub struct Given {
     pub sides: Sides,
     pub dpi: u16,

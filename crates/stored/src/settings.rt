@@ -4,7 +4,7 @@ use crate::{floats, words};
 use params::settings::RulingsParams;
 
 // The settings, and the place past them.
-#[derive(Drop)]
+#[derive(Clone, Copy)]
 pub struct Settings {
     pub p: RulingsParams,
     pub next: usize,

@@ -3,7 +3,7 @@ use crate::words;
 use layout::sides::Sides;
 
 // The sides, and the place past them.
-#[derive(Drop)]
+#[derive(Clone, Copy)]
 pub struct Framed {
     pub sides: Sides,
     pub next: usize,

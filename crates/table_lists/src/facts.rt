@@ -12,7 +12,7 @@ use shapes::limits::Limits;
 use shapes::shape;
 
 // How many tables there are, and how many free rulings.
-#[derive(Drop)]
+#[derive(Clone, Copy)]
 pub struct Found {
     pub tables: usize,
     pub free: usize,

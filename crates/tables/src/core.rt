@@ -45,7 +45,7 @@ fn describe(
 }
 
 // How many sets, tables and free rulings there are.
-#[derive(Drop)]
+#[derive(Clone, Copy)]
 pub struct Counts {
     pub sets: usize,
     pub tables: usize,

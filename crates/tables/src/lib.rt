@@ -10,7 +10,7 @@ use table_questions::guard;
 
 // The number of the first missed question, 0 where none is, and how many sets, tables and free rulings there are.
 #[repr(C)]
-#[derive(Drop)]
+#[derive(Clone, Copy)]
 pub struct Answer {
     pub number: u32,
     pub sets: usize,

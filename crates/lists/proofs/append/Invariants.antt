@@ -1,12 +1,9 @@
 -- `lists::append` meets its contract: after k turns the first k entries are stored.
-use mathlib.Core.Path.{◌≡◌, refl, sym, ap, ◌∙◌}
+use mathlib.Core.Path.{◌≡◌}
 use mathlib.Core.List.{List}
-use Prim.Native.Nat.{ℕ, ◌+◌, ◌-◌, ◌≤◌, ◌<◌}
-use native.Mathlib.Numerals.{add-one}
-use native.Mathlib.Omega.{arith}
-use lib.ListN.{length, get_or, set, take, length-set}
-use lib.Seq.{sets, take-suc, take_all, length-take-le}
-use Rattle.lists.proofs.Stores.{sets_more}
+use Prim.Native.Nat.{ℕ, ◌-◌, ◌≤◌}
+use lib.ListN.{length, take}
+use lib.Seq.{sets}
 use Rattle.lists.proofs.append.Given as goal
 
 pub record Run (xs l : List ℕ) (at : ℕ) (l' : List ℕ) (k : ℕ) : Type 0 where

@@ -1,10 +1,7 @@
 -- `lists::fill` meets its contract: after i turns the first i places hold the value, and the rest is kept.
 use mathlib.Core.Path.{◌≡◌, refl, sym}
-use Prim.Native.Nat.{◌≤◌, ◌-◌}
 use native.Mathlib.Omega.{arith}
-use borrow.Author.Rules.{rules}
-use lib.ListN.{length, replicate, length-set, length-replicate, replicate-append-replicate}
-use Rattle.lists.specs.Lists.{written}
+use lib.ListN.{replicate, length-set, length-replicate, replicate-append-replicate}
 use Rattle.lists.proofs.Written.{written_more}
 use Rattle.lists.proofs.fill.Goals as goal
 

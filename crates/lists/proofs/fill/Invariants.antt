@@ -1,11 +1,8 @@
 -- `lists::fill` meets its contract: after i turns the first i places hold the value, and the rest is kept.
-use mathlib.Core.Path.{◌≡◌, refl, sym}
+use mathlib.Core.Path.{◌≡◌}
 use Prim.Native.Nat.{◌≤◌, ◌-◌}
-use native.Mathlib.Omega.{arith}
-use borrow.Author.Rules.{rules}
-use lib.ListN.{length, replicate, length-set, length-replicate, replicate-append-replicate}
+use lib.ListN.{length, replicate}
 use Rattle.lists.specs.Lists.{written}
-use Rattle.lists.proofs.Written.{written_more}
 use Rattle.lists.proofs.fill.Given as goal
 
 abbrev pub invariant-loop-i : goal.invariant-loop-i

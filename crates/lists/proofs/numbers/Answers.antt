@@ -1,11 +1,9 @@
 -- `lists::numbers` meets its contract: after i turns the first i places hold the numbers below i, and the rest is kept.
 use mathlib.Core.Path.{◌≡◌, refl}
-use Prim.Native.Nat.{◌≤◌, ◌-◌}
 use native.Mathlib.Numerals.{add-one}
 use native.Mathlib.Omega.{arith}
-use borrow.Author.Rules.{rules}
-use lib.ListN.{length, length-set}
-use Rattle.lists.specs.Lists.{below, written}
+use lib.ListN.{length-set}
+use Rattle.lists.specs.Lists.{below}
 use Rattle.lists.proofs.Keep.{length_below}
 use Rattle.lists.proofs.Written.{written_more}
 use Rattle.lists.proofs.numbers.Goals as goal

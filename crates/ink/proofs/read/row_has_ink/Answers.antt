@@ -1,0 +1,36 @@
+-- `read::row_has_ink` meets its contract: no place that was passed has ink.
+use mathlib.Core.Path.{◌≡◌, sym, ◌∙◌}
+use mathlib.Core.Bool.{false}
+use Prim.Native.Nat.{ℕ, ◌+◌, ◌-◌, ◌≤◌, ◌<◌}
+use native.Mathlib.Omega.{arith}
+use borrow.Author.Rules.{rules}
+use borrow.Author.Count.{below_none, below_more}
+use Rattle.rects.specs.Rects.{width_of}
+use Rattle.ink.specs.Ink.{ink_at, row_ink}
+use Rattle.ink.proofs.Counts.{row_in_mask, one_passes, none_passes}
+use Rattle.ink.proofs.read.row_has_ink.Goals as goal
+
+pub loop-i-init : goal.loop-i-init
+loop-i-init c = (omega arith, below_none _)
+
+pub is_ink-requires : goal.is_ink-requires
+is_ink-requires c =
+    let a = c.args in
+    omega (arith, row_in_mask a.mask.now a.w a.r c.requires.0 a.j c.requires.1, c.requires.0.wide, c.requires.1, c.loop-i-test.true, c.width-columns.ensures)
+
+pub returns-then-is_ink : goal.returns-then-is_ink
+unfolding row_ink
+returns-then-is_ink c =
+    let a = c.args in
+    one_passes (λ k. ink_at a.w a.mask.now (a.r.x0 + k) (a.r.y0 + a.j)) (width_of a.r) c.loop-i.i (omega (arith, c.loop-i-test.true, c.width-columns.ensures)) (sym c.is_ink.ensures ∙ c.if-is_ink.true)
+
+pub loop-i-preserved : goal.loop-i-preserved
+loop-i-preserved c =
+    let a = c.args in
+    (omega arith, below_more _ _ c.loop-i.invariant.1 (sym c.is_ink.ensures ∙ c.if-is_ink.false))
+
+pub returns : goal.returns
+unfolding row_ink
+returns c =
+    let a = c.args in
+    none_passes (λ k. ink_at a.w a.mask.now (a.r.x0 + k) (a.r.y0 + a.j)) (width_of a.r) (λ k l. c.loop-i.invariant.1 k (omega (arith, l, c.loop-i-test.false, c.width-columns.ensures)))
