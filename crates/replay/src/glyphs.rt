@@ -1,9 +1,10 @@
 // Answers to `boxes`. Every list is lent whole.
 use crate::settings::Given;
+use std::io;
 use stored::{words, written};
 
 // Writes the number and the count of boxes, then their rectangles, marks and edge coverages.
-pub fn answer(given: Given, glyphs: &[u32], ink: &[u8]) {
+pub fn answer(rt: &impl Print, given: Given, glyphs: &[u32], ink: &[u8]) -> io::Result<()> {
     let mut rects = [0u32; 64];
     let mut marks = [0u32; 16];
     let mut coverages = [0.0f64; 16];
@@ -20,10 +21,10 @@ pub fn answer(given: Given, glyphs: &[u32], ink: &[u8]) {
         &mut coverages,
     );
     let count = words::at_most(a.count as u64, 16);
-    written::word(a.number as u64);
-    written::word(a.count as u64);
-    written::wholes(&rects, 4 * count);
-    written::wholes(&marks, count);
-    written::floats(&coverages, count);
-    written::end();
+    written::word(rt, a.number as u64)?;
+    written::word(rt, a.count as u64)?;
+    written::wholes(rt, &rects, 4 * count)?;
+    written::wholes(rt, &marks, count)?;
+    written::floats(rt, &coverages, count)?;
+    written::end(rt)
 }

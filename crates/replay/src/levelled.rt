@@ -6,10 +6,11 @@ use layout::calls::{Mapped, MappedRect};
 use layout::page::Levelled;
 use layout::sides::Sides;
 use rects::Rect;
+use std::io;
 use stored::{floats, words, written};
 
 // Answers the call of this number that goes on at `at`, and returns the place past it.
-pub fn page(text: &[u8], at: usize, call: u64) -> usize {
+pub fn page(rt: &impl Print, text: &[u8], at: usize, call: u64) -> io::Result<usize> {
     let given = stored::sides::read(text, at);
     let mut shear = [0i32; 64];
     let mut shear_x = [0i32; 64];
@@ -23,29 +24,31 @@ pub fn page(text: &[u8], at: usize, call: u64) -> usize {
     let rows = x.count;
     let pixels = g.count;
     answer(
+        rt,
         call,
         given.sides,
         &shear[..columns],
         &shear_x[..rows],
         &raster[..pixels],
         &numbers,
-    );
-    n.next
+    )?;
+    Ok(n.next)
 }
 
 // The numbers are the room for a raster, a place, or a rectangle. A raster is lent with 7 in it.
 fn answer(
+    rt: &impl Print,
     call: u64,
     sides: Sides,
     shear: &[i32],
     shear_x: &[i32],
     raster: &[u8],
     numbers: &[u32; 4],
-) {
+) -> io::Result<()> {
     match call {
-        10 => level_gray(sides, shear, shear_x, raster, numbers[0], &mut [7; 256]),
-        11 => to_page(sides, shear, shear_x, Levelled(numbers[0], numbers[1])),
-        14 => unlevel(sides, shear, shear_x, raster, numbers[0], &mut [7; 256]),
+        10 => level_gray(rt, sides, shear, shear_x, raster, numbers[0], &mut [7; 256])?,
+        11 => to_page(rt, sides, shear, shear_x, Levelled(numbers[0], numbers[1]))?,
+        14 => unlevel(rt, sides, shear, shear_x, raster, numbers[0], &mut [7; 256])?,
         _ => {
             let r = Rect {
                 x0: numbers[0],
@@ -53,60 +56,81 @@ fn answer(
                 x1: numbers[2],
                 y1: numbers[3],
             };
-            rect_to_page(sides, shear, shear_x, r)
+            rect_to_page(rt, sides, shear, shear_x, r)?
         }
     }
-    written::end();
+    written::end(rt)
 }
 
 // Writes the number and every byte of a raster of `room` bytes, the front of `out`.
 fn level_gray(
+    rt: &impl Print,
     sides: Sides,
     shear: &[i32],
     shear_x: &[i32],
     gray: &[u8],
     room: u32,
     out: &mut [u8],
-) {
+) -> io::Result<()> {
     let n = words::at_most(room as u64, out.len());
     let number = level_gray::level_gray(sides, gray, shear, shear_x, &mut out[..n]);
-    written::word(number as u64);
-    written::bytes(out, n);
+    written::word(rt, number as u64)?;
+    written::bytes(rt, out, n)
 }
 
 // The same of a page raster.
-fn unlevel(sides: Sides, shear: &[i32], shear_x: &[i32], level: &[u8], room: u32, out: &mut [u8]) {
+fn unlevel(
+    rt: &impl Print,
+    sides: Sides,
+    shear: &[i32],
+    shear_x: &[i32],
+    level: &[u8],
+    room: u32,
+    out: &mut [u8],
+) -> io::Result<()> {
     let n = words::at_most(room as u64, out.len());
     let number = unlevel::unlevel(sides, level, shear, shear_x, &mut out[..n]);
-    written::word(number as u64);
-    written::bytes(out, n);
+    written::word(rt, number as u64)?;
+    written::bytes(rt, out, n)
 }
 
 // Writes the number, and the place or 0 and 0.
-fn to_page(sides: Sides, shear: &[i32], shear_x: &[i32], p: Levelled) {
+fn to_page(
+    rt: &impl Print,
+    sides: Sides,
+    shear: &[i32],
+    shear_x: &[i32],
+    p: Levelled,
+) -> io::Result<()> {
     let mapped = calls::to_page(sides, shear, shear_x, p);
     match mapped {
-        Mapped::Place(place) => write_place(0, place.0, place.1),
-        Mapped::Refused(number) => write_place(number, 0, 0),
+        Mapped::Place(place) => write_place(rt, 0, place.0, place.1),
+        Mapped::Refused(number) => write_place(rt, number, 0, 0),
     }
 }
 
-fn write_place(number: u32, x: i64, y: i64) {
-    written::word(number as u64);
-    written::word(floats::bits_of_whole(x));
-    written::word(floats::bits_of_whole(y));
+fn write_place(rt: &impl Print, number: u32, x: i64, y: i64) -> io::Result<()> {
+    written::word(rt, number as u64)?;
+    written::word(rt, floats::bits_of_whole(x))?;
+    written::word(rt, floats::bits_of_whole(y))
 }
 
 // Writes the number, and the rectangle or four times 0.
-fn rect_to_page(sides: Sides, shear: &[i32], shear_x: &[i32], r: Rect) {
+fn rect_to_page(
+    rt: &impl Print,
+    sides: Sides,
+    shear: &[i32],
+    shear_x: &[i32],
+    r: Rect,
+) -> io::Result<()> {
     let mapped = calls::rect_to_page(sides, shear, shear_x, r);
     match mapped {
-        MappedRect::Area(a) => write_area(0, &[a.x0, a.y0, a.x1, a.y1]),
-        MappedRect::RefusedArea(number) => write_area(number, &[0, 0, 0, 0]),
+        MappedRect::Area(a) => write_area(rt, 0, &[a.x0, a.y0, a.x1, a.y1]),
+        MappedRect::RefusedArea(number) => write_area(rt, number, &[0, 0, 0, 0]),
     }
 }
 
-fn write_area(number: u32, area: &[u32]) {
-    written::word(number as u64);
-    written::wholes(area, 4);
+fn write_area(rt: &impl Print, number: u32, area: &[u32]) -> io::Result<()> {
+    written::word(rt, number as u64)?;
+    written::wholes(rt, area, 4)
 }

@@ -11,8 +11,9 @@
 // and the reading order of 8, by a plain sort. The sets that 8 names as grids are those that the Rust finds.
 #![tactic(auto)]
 
-use stored::words;
+use std::io;
 use stored::words::Word;
+use stored::{input, words};
 
 mod floats;
 mod glyphs;
@@ -23,43 +24,41 @@ mod rulings;
 mod settings;
 mod squares;
 
-fn main() {
+fn main(rt: HostRuntime) -> io::Result<()> {
     let mut text = [0u8; 262144];
-    let n = io::read_full(libc::STDIN_FILENO, &mut text);
-    replay(&text[..n]);
+    let n = input::read_full(&mut rt.stdin(), &mut text)?;
+    replay(&rt, &text[..n])
 }
 
 // Answers call after call. A call takes a byte at least, so there are no more calls than bytes.
-fn replay(text: &[u8]) {
+fn replay(rt: &impl Print, text: &[u8]) -> io::Result<()> {
     let mut at = 0;
-    let mut turns = text.len();
-    while turns > 0 {
+    for _ in 0..text.len() {
         if at < text.len() {
-            at = answer(text, at);
+            at = answer(rt, text, at)?;
         }
-        turns -= 1;
     }
+    Ok(())
 }
 
 // Answers the call at `at`, and returns the place of the next one.
-fn answer(text: &[u8], at: usize) -> usize {
+fn answer(rt: &impl Print, text: &[u8], at: usize) -> io::Result<usize> {
     let call = words::read_word(text, at);
     let number = call.value;
     let next = call.next;
     match number {
-        1 => print(floats::pairwise_sum(text, next)),
-        2 => print(floats::round_output(text, next)),
-        3 => print(floats::rounded_product(text, next)),
-        4 => print(floats::round(text, next)),
-        5..=9 => pages::page(text, next, number),
-        10..=12 | 14 => levelled::page(text, next, number),
-        _ => text.len(),
+        1 => print(rt, floats::pairwise_sum(text, next)),
+        2 => print(rt, floats::round_output(text, next)),
+        3 => print(rt, floats::rounded_product(text, next)),
+        4 => print(rt, floats::round(text, next)),
+        5..=9 => pages::page(rt, text, next, number),
+        10..=12 | 14 => levelled::page(rt, text, next, number),
+        _ => Ok(text.len()),
     }
 }
 
 // Writes an answer on a line of its own, and returns the place past the call.
-fn print(answer: Word) -> usize {
-    io::print_hex(libc::STDOUT_FILENO, answer.value, 16);
-    io::write_all(libc::STDOUT_FILENO, b"\n");
-    answer.next
+fn print(rt: &impl Print, answer: Word) -> io::Result<usize> {
+    println!(rt; "{:016x}", answer.value)?;
+    Ok(answer.next)
 }

@@ -3,10 +3,11 @@
 // rectangles and 256 pixels.
 use crate::settings::Given;
 use crate::{glyphs, pieces, rulings, settings, squares};
+use std::io;
 use stored::words;
 
 // Answers the call of this number that goes on at `at`, and returns the place past it.
-pub fn page(text: &[u8], at: usize, call: u64) -> usize {
+pub fn page(rt: &impl Print, text: &[u8], at: usize, call: u64) -> io::Result<usize> {
     let given = settings::read(text, at);
     let mut rects = [0u32; 64];
     let mut directions = [0u32; 20];
@@ -18,21 +19,29 @@ pub fn page(text: &[u8], at: usize, call: u64) -> usize {
     let rulings = d.count;
     let pixels = b.count;
     answer(
+        rt,
         call,
         given,
         &rects[..numbers],
         &directions[..rulings],
         &bytes[..pixels],
-    );
-    b.next
+    )?;
+    Ok(b.next)
 }
 
-fn answer(call: u64, given: Given, rects: &[u32], directions: &[u32], bytes: &[u8]) {
+fn answer(
+    rt: &impl Print,
+    call: u64,
+    given: Given,
+    rects: &[u32],
+    directions: &[u32],
+    bytes: &[u8],
+) -> io::Result<()> {
     match call {
-        5 => pieces::answer(given, rects, bytes),
-        6 => rulings::answer(given, rects, directions),
-        7 => glyphs::answer(given, rects, bytes),
-        8 => squares::answer(given, rects),
-        _ => settings::answer(given),
+        5 => pieces::answer(rt, given, rects, bytes),
+        6 => rulings::answer(rt, given, rects, directions),
+        7 => glyphs::answer(rt, given, rects, bytes),
+        8 => squares::answer(rt, given, rects),
+        _ => settings::answer(rt, given),
     }
 }

@@ -1,10 +1,12 @@
 // Answers to `segments`. Every list is lent whole.
 use crate::settings::Given;
+use std::io;
 use stored::{words, written};
 
 // Writes the number and the count of rulings, then their rectangles, directions, contrasts and ends,
 // and the n members.
 fn write_rulings(
+    rt: &impl Print,
     number: u32,
     rulings: usize,
     n: usize,
@@ -13,20 +15,20 @@ fn write_rulings(
     contrasts: &[f64; 16],
     ends: &[u32; 16],
     members: &[u32; 16],
-) {
+) -> io::Result<()> {
     let count = words::at_most(rulings as u64, 16);
-    written::word(number as u64);
-    written::word(rulings as u64);
-    written::wholes(rects, 4 * count);
-    written::wholes(directions, count);
-    written::floats(contrasts, count);
-    written::wholes(ends, count);
-    written::wholes(members, n);
-    written::end();
+    written::word(rt, number as u64)?;
+    written::word(rt, rulings as u64)?;
+    written::wholes(rt, rects, 4 * count)?;
+    written::wholes(rt, directions, count)?;
+    written::floats(rt, contrasts, count)?;
+    written::wholes(rt, ends, count)?;
+    written::wholes(rt, members, n)?;
+    written::end(rt)
 }
 
 // Writes what the call answers.
-pub fn answer(given: Given, pieces: &[u32], raster: &[u8]) {
+pub fn answer(rt: &impl Print, given: Given, pieces: &[u32], raster: &[u8]) -> io::Result<()> {
     let mut rects = [0u32; 64];
     let mut directions = [0u32; 16];
     let mut contrasts = [0.0f64; 16];
@@ -52,6 +54,7 @@ pub fn answer(given: Given, pieces: &[u32], raster: &[u8]) {
     );
     let n = if a.number == 0 { pieces.len() / 4 } else { 0 };
     write_rulings(
+        rt,
         a.number,
         a.count,
         n,
@@ -60,5 +63,5 @@ pub fn answer(given: Given, pieces: &[u32], raster: &[u8]) {
         &contrasts,
         &ends,
         &members,
-    );
+    )
 }

@@ -1,10 +1,12 @@
 // Answers to `tables`. Every list is lent whole.
 use crate::settings::Given;
+use std::io;
 use stored::{words, written};
 
 // Writes the number and the count of tables, and for each its set's number, rectangle, rows, columns,
 // rulings and share, list by list.
 fn write_tables(
+    rt: &impl Print,
     number: u32,
     tables: usize,
     numbers: &[u32; 16],
@@ -13,37 +15,38 @@ fn write_tables(
     columns: &[u32; 16],
     rulings: &[u32; 16],
     shares: &[f64; 16],
-) {
+) -> io::Result<()> {
     let count = words::at_most(tables as u64, 16);
-    written::word(number as u64);
-    written::word(tables as u64);
-    written::wholes(numbers, count);
-    written::wholes(bounds, 4 * count);
-    written::wholes(rows, count);
-    written::wholes(columns, count);
-    written::wholes(rulings, count);
-    written::floats(shares, count);
+    written::word(rt, number as u64)?;
+    written::word(rt, tables as u64)?;
+    written::wholes(rt, numbers, count)?;
+    written::wholes(rt, bounds, 4 * count)?;
+    written::wholes(rt, rows, count)?;
+    written::wholes(rt, columns, count)?;
+    written::wholes(rt, rulings, count)?;
+    written::floats(rt, shares, count)
 }
 
 // Writes the free list and the sets: each count, then the list, and the n members.
 fn write_sets(
+    rt: &impl Print,
     sets: usize,
     free_count: usize,
     n: usize,
     free: &[u32; 16],
     ends: &[u32; 16],
     members: &[u32; 16],
-) {
-    written::word(free_count as u64);
-    written::wholes(free, free_count);
-    written::word(sets as u64);
-    written::wholes(ends, sets);
-    written::wholes(members, n);
-    written::end();
+) -> io::Result<()> {
+    written::word(rt, free_count as u64)?;
+    written::wholes(rt, free, free_count)?;
+    written::word(rt, sets as u64)?;
+    written::wholes(rt, ends, sets)?;
+    written::wholes(rt, members, n)?;
+    written::end(rt)
 }
 
 // Writes what the call answers: tables, free list, sets.
-pub fn answer(given: Given, rects: &[u32], directions: &[u32]) {
+pub fn answer(rt: &impl Print, given: Given, rects: &[u32], directions: &[u32]) -> io::Result<()> {
     let mut members = [0u32; 16];
     let mut ends = [0u32; 16];
     let mut numbers = [0u32; 16];
@@ -74,7 +77,7 @@ pub fn answer(given: Given, rects: &[u32], directions: &[u32]) {
     );
     let n = if a.number == 0 { rects.len() / 4 } else { 0 };
     write_tables(
-        a.number, a.tables, &numbers, &bounds, &rows, &columns, &rulings, &shares,
-    );
-    write_sets(a.sets, a.free, n, &free, &ends, &members);
+        rt, a.number, a.tables, &numbers, &bounds, &rows, &columns, &rulings, &shares,
+    )?;
+    write_sets(rt, a.sets, a.free, n, &free, &ends, &members)
 }

@@ -1,6 +1,7 @@
 // What a stored page is given by value: sides, resolution, x-height and settings. A call without a picture has
 // sides 0.
 use params::settings::RulingsParams;
+use std::io;
 use stored::{floats, words, written};
 
 // What a call is given, and the place past that.
@@ -33,10 +34,10 @@ pub fn read(text: &[u8], at: usize) -> Given {
 
 // Answers to `validate`: 1 where it accepts, and the number of the first missed question, which is 13 for
 // settings that it accepts and that let `min_free_rules` be 0.
-pub fn answer(given: Given) {
+pub fn answer(rt: &impl Print, given: Given) -> io::Result<()> {
     let accepted = params::validate::validate(given.p) == 0;
     let number = params::validate::missed_by_settings(given.p);
-    written::word(if accepted { 1 } else { 0 });
-    written::word(number as u64);
-    written::end();
+    written::word(rt, if accepted { 1 } else { 0 })?;
+    written::word(rt, number as u64)?;
+    written::end(rt)
 }

@@ -1,10 +1,11 @@
 // Answers to `box_grids`. Every list is lent whole.
 use crate::settings::Given;
+use std::io;
 use stored::written;
 
 // Writes the number; the set numbers of the grids and the ends of the sets, each behind its count; the
 // members and the reading order.
-pub fn answer(given: Given, rects: &[u32]) {
+pub fn answer(rt: &impl Print, given: Given, rects: &[u32]) -> io::Result<()> {
     let mut members = [0u32; 16];
     let mut ends = [0u32; 16];
     let mut reading = [0u32; 16];
@@ -22,12 +23,12 @@ pub fn answer(given: Given, rects: &[u32]) {
         &mut [0; 16],
     );
     let n = if a.number == 0 { rects.len() / 4 } else { 0 };
-    written::word(a.number as u64);
-    written::word(a.grids as u64);
-    written::wholes(&numbers, a.grids);
-    written::word(a.sets as u64);
-    written::wholes(&ends, a.sets);
-    written::wholes(&members, n);
-    written::wholes(&reading, n);
-    written::end();
+    written::word(rt, a.number as u64)?;
+    written::word(rt, a.grids as u64)?;
+    written::wholes(rt, &numbers, a.grids)?;
+    written::word(rt, a.sets as u64)?;
+    written::wholes(rt, &ends, a.sets)?;
+    written::wholes(rt, &members, n)?;
+    written::wholes(rt, &reading, n)?;
+    written::end(rt)
 }

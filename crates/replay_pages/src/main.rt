@@ -8,36 +8,36 @@
 // closed sets, by a flood fill (ends, members and set numbers), and the reading order, by a plain sort.
 #![tactic(auto)]
 
-use stored::words;
+use std::io;
+use stored::{input, words};
 
 mod answers;
 mod findings;
 mod pages;
 
-fn main() {
+fn main(rt: HostRuntime) -> io::Result<()> {
     let mut text = [0u8; 262144];
-    let n = io::read_full(libc::STDIN_FILENO, &mut text);
-    replay(&text[..n]);
+    let n = input::read_full(&mut rt.stdin(), &mut text)?;
+    replay(&rt, &text[..n])
 }
 
 // Answers page after page. A page takes a byte at least, so there are no more pages than bytes.
-fn replay(text: &[u8]) {
+fn replay(rt: &impl Print, text: &[u8]) -> io::Result<()> {
     let mut at = 0;
-    let mut turns = text.len();
-    while turns > 0 {
+    for _ in 0..text.len() {
         if at < text.len() {
-            at = answer(text, at);
+            at = answer(rt, text, at)?;
         }
-        turns -= 1;
     }
+    Ok(())
 }
 
 // Answers the page at `at`, and returns the place of the next one.
-fn answer(text: &[u8], at: usize) -> usize {
+fn answer(rt: &impl Print, text: &[u8], at: usize) -> io::Result<usize> {
     let call = words::read_word(text, at);
     if call.value == 13 {
-        pages::page(text, call.next)
+        pages::page(rt, text, call.next)
     } else {
-        text.len()
+        Ok(text.len())
     }
 }

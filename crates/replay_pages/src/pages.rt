@@ -4,6 +4,7 @@
 use crate::answers;
 use params::settings::FusionParams;
 use small_pages::given::Given;
+use std::io;
 use stored::{floats, settings, sides, words};
 
 // What a page gives by value, and the place past that.
@@ -39,7 +40,7 @@ fn read_given(text: &[u8], at: usize) -> Asked {
 }
 
 // Answers the page that goes on at `at`, and returns the place past it: reads the shear tables, then the rest.
-pub fn page(text: &[u8], at: usize) -> usize {
+pub fn page(rt: &impl Print, text: &[u8], at: usize) -> io::Result<usize> {
     let asked = read_given(text, at);
     let given = asked.given;
     let mut shear = [0i32; 72];
@@ -48,11 +49,18 @@ pub fn page(text: &[u8], at: usize) -> usize {
     let x = words::read_signed(text, words::read_word(text, s.next), &mut shear_x);
     let columns = s.count;
     let rows = x.count;
-    rasters(text, x.next, given, &shear[..columns], &shear_x[..rows])
+    rasters(rt, text, x.next, given, &shear[..columns], &shear_x[..rows])
 }
 
 // Reads the grey raster and the ink, then the rest.
-fn rasters(text: &[u8], at: usize, given: Given, shear: &[i32], shear_x: &[i32]) -> usize {
+fn rasters(
+    rt: &impl Print,
+    text: &[u8],
+    at: usize,
+    given: Given,
+    shear: &[i32],
+    shear_x: &[i32],
+) -> io::Result<usize> {
     let mut gray = [0u8; 160];
     let mut ink = [0u8; 160];
     let g = words::read_bytes(text, words::read_word(text, at), &mut gray);
@@ -60,6 +68,7 @@ fn rasters(text: &[u8], at: usize, given: Given, shear: &[i32], shear_x: &[i32])
     let page = g.count;
     let picture = i.count;
     shapes(
+        rt,
         text,
         i.next,
         given,
@@ -72,6 +81,7 @@ fn rasters(text: &[u8], at: usize, given: Given, shear: &[i32], shear_x: &[i32])
 
 // Reads the pieces, the glyph boxes and the room, and answers.
 fn shapes(
+    rt: &impl Print,
     text: &[u8],
     at: usize,
     given: Given,
@@ -79,7 +89,7 @@ fn shapes(
     shear_x: &[i32],
     gray: &[u8],
     ink: &[u8],
-) -> usize {
+) -> io::Result<usize> {
     let mut pieces = [0u32; 72];
     let mut glyphs = [0u32; 72];
     let p = words::read_wholes(text, words::read_word(text, at), &mut pieces);
@@ -88,6 +98,7 @@ fn shapes(
     let n = p.count;
     let m = g.count;
     answers::answer(
+        rt,
         given,
         gray,
         ink,
@@ -96,6 +107,6 @@ fn shapes(
         &pieces[..n],
         &glyphs[..m],
         room.value,
-    );
-    room.next
+    )?;
+    Ok(room.next)
 }

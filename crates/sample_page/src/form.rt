@@ -6,15 +6,16 @@ use layout::sides::Sides;
 use params::settings::FusionParams;
 use small_pages::found;
 use small_pages::given::Given;
+use std::io;
 
-pub fn run() {
+pub fn run(rt: &impl Print) -> io::Result<()> {
     let mut gray = [255u8; 360];
     draw(&mut gray);
-    read(&gray);
+    read(rt, &gray)
 }
 
 // Reads the page and shows what is found.
-fn read(gray: &[u8; 360]) {
+fn read(rt: &impl Print, gray: &[u8; 360]) -> io::Result<()> {
     let shear = [1, 1, 1, 1, 1, 1, 1, 1, 1, 1, 1, 1, 0, 0, 0, 0, 0, 0, 0, 0];
     let shear_x = [0i32; 19];
     let mut ink = [0u8; 380];
@@ -25,7 +26,7 @@ fn read(gray: &[u8; 360]) {
     ];
     let glyphs = [14, 0, 19, 5, 14, 8, 19, 13];
     let found = found::detect(given(), gray, &ink, &shear, &shear_x, &pieces, &glyphs, 380);
-    shown::show(found);
+    shown::show(rt, &found)
 }
 
 // The page, # for ink and - for the fold.

@@ -16,10 +16,12 @@
 // The findings stand by their first row, then by their first column.
 #![tactic(auto)]
 
+use std::io;
+
 mod form;
 mod settings;
 mod shown;
 
-fn main() {
-    form::run();
+fn main(rt: HostRuntime) -> io::Result<()> {
+    form::run(&rt)
 }

@@ -2,51 +2,52 @@
 ghost use Rattle.std.specs.Prelude.{◌<◌};
 
 use small_pages::found::Found;
+use std::io;
 use stored::floats::bits_of_whole;
 
-pub fn show(found: Found) {
+pub fn show(rt: &impl Print, found: &Found) -> io::Result<()> {
     let counts = found.counts;
-    text(b"form: answer ");
-    number(counts[0] as u64);
-    counted(counts[1] as u64, b" rulings");
-    counted(counts[2] as u64, b" printed");
-    counted(counts[3] as u64, b" faint");
-    counted(counts[4] as u64, b" tables");
-    counted(counts[5] as u64, b" boxes");
-    counted(counts[6] as u64, b" grids");
-    counted(counts[7] as u64, b" findings\n");
-    finding(found, 0);
-    finding(found, 1);
-    finding(found, 2);
+    text(rt, "form: answer ")?;
+    number(rt, counts[0] as u64)?;
+    counted(rt, counts[1] as u64, " rulings")?;
+    counted(rt, counts[2] as u64, " printed")?;
+    counted(rt, counts[3] as u64, " faint")?;
+    counted(rt, counts[4] as u64, " tables")?;
+    counted(rt, counts[5] as u64, " boxes")?;
+    counted(rt, counts[6] as u64, " grids")?;
+    counted(rt, counts[7] as u64, " findings\n")?;
+    finding(rt, found, 0)?;
+    finding(rt, found, 1)?;
+    finding(rt, found, 2)
 }
 
-fn text(what: &[u8]) {
-    io::write_all(libc::STDOUT_FILENO, what);
+fn text(rt: &impl Print, what: &str) -> io::Result<()> {
+    print!(rt; "{what}")
 }
 
-fn number(n: u64) {
-    io::print_decimal(libc::STDOUT_FILENO, n);
+fn number(rt: &impl Print, n: u64) -> io::Result<()> {
+    print!(rt; "{n}")
 }
 
 // A comma, a count, and what is counted.
-fn counted(n: u64, what: &[u8]) {
-    text(b", ");
-    number(n);
-    text(what);
+fn counted(rt: &impl Print, n: u64, what: &str) -> io::Result<()> {
+    text(rt, ", ")?;
+    number(rt, n)?;
+    text(rt, what)
 }
 
 // Behind its name, a float in hundredths; none is below 0 here.
-fn float(what: &[u8], x: f64) {
+fn float(rt: &impl Print, what: &str, x: f64) -> io::Result<()> {
     let n = bits_of_whole(rounding::rounded_product(x, 100.0));
-    text(what);
-    number(n / 100);
-    text(b".");
-    number(n / 10 % 10);
-    number(n % 10);
+    text(rt, what)?;
+    number(rt, n / 100)?;
+    text(rt, ".")?;
+    number(rt, n / 10 % 10)?;
+    number(rt, n % 10)
 }
 
 // Finding i: its kind, its rectangle on the page, its facts, its log odds.
-fn finding(found: Found, i: usize)
+fn finding(rt: &impl Print, found: &Found, i: usize) -> io::Result<()>
     requires { i < 32 }
 {
     let kinds = found.kinds;
@@ -59,64 +60,75 @@ fn finding(found: Found, i: usize)
     let second = found.second_values;
     let lengths = found.lengths;
     place(
+        rt,
         kinds[i],
         rects[4 * i],
         rects[4 * i + 1],
         rects[4 * i + 2],
         rects[4 * i + 3],
-    );
-    facts(kinds[i], a[i], b[i], c[i], first[i], second[i], lengths[i]);
-    float(b", log odds ", log_odds[i]);
-    text(b"\n");
+    )?;
+    facts(
+        rt, kinds[i], a[i], b[i], c[i], first[i], second[i], lengths[i],
+    )?;
+    float(rt, ", log odds ", log_odds[i])?;
+    text(rt, "\n")
 }
 
-fn place(kind: u32, x0: u32, y0: u32, x1: u32, y1: u32) {
+fn place(rt: &impl Print, kind: u32, x0: u32, y0: u32, x1: u32, y1: u32) -> io::Result<()> {
+    let name = match kind {
+        16 => "table",
+        18 => "grid",
+        19 => "fold",
+        _ => "rules",
+    };
+    print!(rt; "{name} from {x0}, {y0} to {x1}, {y1}: kind {kind}")
+}
+
+fn facts(
+    rt: &impl Print,
+    kind: u32,
+    a: u32,
+    b: u32,
+    c: u32,
+    first: f64,
+    second: f64,
+    length: f64,
+) -> io::Result<()> {
     match kind {
-        16 => text(b"table from "),
-        18 => text(b"grid from "),
-        19 => text(b"fold from "),
-        _ => text(b"rules from "),
-    }
-    number(x0 as u64);
-    text(b", ");
-    number(y0 as u64);
-    text(b" to ");
-    number(x1 as u64);
-    text(b", ");
-    number(y1 as u64);
-    text(b": kind ");
-    number(kind as u64);
-}
-
-fn facts(kind: u32, a: u32, b: u32, c: u32, first: f64, second: f64, length: f64) {
-    match kind {
-        16 => table(a, b, c, first, second),
-        18 => grid(a, b, second),
-        19 => fold(a, first, length),
-        _ => text(b", rules"),
+        16 => table(rt, a, b, c, first, second),
+        18 => grid(rt, a, b, second),
+        19 => fold(rt, a, first, length),
+        _ => text(rt, ", rules"),
     }
 }
 
-fn table(rows: u32, columns: u32, rulings: u32, cells: f64, share: f64) {
-    counted(rows as u64, b" rows");
-    counted(columns as u64, b" columns");
-    counted(rulings as u64, b" rulings");
-    float(b", cells ", cells);
-    float(b", joined share ", share);
+fn table(
+    rt: &impl Print,
+    rows: u32,
+    columns: u32,
+    rulings: u32,
+    cells: f64,
+    share: f64,
+) -> io::Result<()> {
+    counted(rt, rows as u64, " rows")?;
+    counted(rt, columns as u64, " columns")?;
+    counted(rt, rulings as u64, " rulings")?;
+    float(rt, ", cells ", cells)?;
+    float(rt, ", joined share ", share)
 }
 
-fn grid(boxes: u32, ticked: u32, edge: f64) {
-    counted(boxes as u64, b" boxes");
-    counted(ticked as u64, b" ticked");
-    float(b", mean edge ", edge);
+fn grid(rt: &impl Print, boxes: u32, ticked: u32, edge: f64) -> io::Result<()> {
+    counted(rt, boxes as u64, " boxes")?;
+    counted(rt, ticked as u64, " ticked")?;
+    float(rt, ", mean edge ", edge)
 }
 
-fn fold(direction: u32, contrast: f64, length: f64) {
+fn fold(rt: &impl Print, direction: u32, contrast: f64, length: f64) -> io::Result<()> {
     if direction == 0 {
-        text(b", horizontal");
+        text(rt, ", horizontal")?;
     } else {
-        text(b", vertical");
+        text(rt, ", vertical")?;
     }
-    float(b", contrast ", contrast);
-    float(b", inches ", length);
+    float(rt, ", contrast ", contrast)?;
+    float(rt, ", inches ", length)
 }

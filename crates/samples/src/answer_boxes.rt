@@ -1,14 +1,16 @@
 // A box 16 wide: its inner columns are the middle 8, from 4 to 11.
 use crate::{settings, show};
 use params::settings::RulingsParams;
+use std::io;
 
-pub fn run() {
+pub fn run(rt: &impl Print) -> io::Result<()> {
     let before = (mark_with(3) == 0) & (mark_with(4) == 1);
     let behind = (mark_with(11) == 1) & (mark_with(12) == 0);
     show(
-        b"box 16 wide: inner columns are the middle 8",
+        rt,
+        "box 16 wide: inner columns are the middle 8",
         before & behind,
-    );
+    )
 }
 
 // Is there ink at place k of a picture of 16 by 16: a frame one pixel wide, and one pixel in row 8?

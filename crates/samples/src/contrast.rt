@@ -1,28 +1,31 @@
 // The contrast of a ruling: 255 less its grey where nothing beside it can be sampled, and otherwise
 // the samples' entry at half their number.
 use crate::{joining, show};
+use std::io;
 
-pub fn run() {
-    no_samples();
-    two_samples();
+pub fn run(rt: &impl Print) -> io::Result<()> {
+    no_samples(rt)?;
+    two_samples(rt)
 }
 
 // Rows 3 to 6 away from row 1 are rows -5 to -2 and 4 to 7: a picture of four rows has none of them.
-fn no_samples() {
+fn no_samples(rt: &impl Print) -> io::Result<()> {
     let raster = [55, 55, 55, 55, 55, 55, 55, 55];
     show(
-        b"height 4, ruling on row 1, grey 55: no samples, contrast 200",
+        rt,
+        "height 4, ruling on row 1, grey 55: no samples, contrast 200",
         contrast_of(&raster, 4) == 200.0,
-    );
+    )
 }
 
 // Row 4 has 230 and 250, and the entry at half of two is the second: 250 less 55.
-fn two_samples() {
+fn two_samples(rt: &impl Print) -> io::Result<()> {
     let raster = [55, 55, 55, 55, 55, 55, 55, 55, 230, 250];
     show(
-        b"height 5: row 4 is sampled, 230 and 250 give 250, contrast 195",
+        rt,
+        "height 5: row 4 is sampled, 230 and 250 give 250, contrast 195",
         contrast_of(&raster, 5) == 195.0,
-    );
+    )
 }
 
 // The contrast of the one ruling on row 1 of a picture two columns wide; -1 for any other answer.

@@ -1,34 +1,37 @@
 // Two slips about pieces that touch, at an x-height of 1, so that each setting is its limit.
 use crate::{settings, show};
+use std::io;
 
-pub fn run() {
-    centres_stay_doubled();
-    chains_are_followed();
+pub fn run(rt: &impl Print) -> io::Result<()> {
+    centres_stay_doubled(rt)?;
+    chains_are_followed(rt)
 }
 
 // The doubled centres, 10 and 15, differ by 5, and the limit is 4. Halved before they are compared, they
 // would be 5 and 7 with a limit of 2, and the pieces one ruling.
-fn centres_stay_doubled() {
+fn centres_stay_doubled(rt: &impl Print) -> io::Result<()> {
     let pieces = [0, 5, 9, 5, 0, 7, 9, 8];
     let mut rects = [0; 16];
     let rulings = join_on_white(2.0, 0.0, &pieces, &mut rects);
     show(
-        b"across limit 2: row 5 and rows 7..8 are two rulings",
+        rt,
+        "across limit 2: row 5 and rows 7..8 are two rulings",
         (rulings == 2) & (rects[3] == 5) & (rects[7] == 8),
-    );
+    )
 }
 
 // Along the row each piece touches the next, in the order 0, 3, 1, 2. One pass without chains would make
 // two rulings, whether a piece joins the first ruling that it touches, or takes the pieces that it
 // touches itself, or the smaller of two touching pieces' numbers goes over to the other.
-fn chains_are_followed() {
+fn chains_are_followed(rt: &impl Print) -> io::Result<()> {
     let pieces = [0, 4, 9, 4, 40, 4, 49, 4, 60, 4, 69, 4, 20, 4, 29, 4];
     let mut rects = [0; 16];
     let rulings = join_on_white(0.0, 10.0, &pieces, &mut rects);
     show(
-        b"gap limit 10: four pieces in a chain are one ruling",
+        rt,
+        "gap limit 10: four pieces in a chain are one ruling",
         (rulings == 1) & (rects[0] == 0) & (rects[2] == 69),
-    );
+    )
 }
 
 // The number of rulings on a white picture of 70 by 9; their rectangles go into `rects`.

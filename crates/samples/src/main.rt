@@ -2,6 +2,8 @@
 // `stdout` has a line for each, and every one of them ends in "yes".
 #![tactic(auto)]
 
+use std::io;
+
 mod answer_boxes;
 mod contrast;
 mod floats;
@@ -9,20 +11,16 @@ mod joining;
 mod ruled_tables;
 mod settings;
 
-fn main() {
-    floats::run();
-    contrast::run();
-    answer_boxes::run();
-    joining::run();
-    ruled_tables::run();
+fn main(rt: HostRuntime) -> io::Result<()> {
+    floats::run(&rt)?;
+    contrast::run(&rt)?;
+    answer_boxes::run(&rt)?;
+    joining::run(&rt)?;
+    ruled_tables::run(&rt)
 }
 
 // Writes a line: what was tried, and whether it came out right.
-fn show(what: &[u8], right: bool) {
-    io::write_all(libc::STDOUT_FILENO, what);
-    if right {
-        io::write_all(libc::STDOUT_FILENO, b": yes\n");
-    } else {
-        io::write_all(libc::STDOUT_FILENO, b": no\n");
-    }
+fn show(rt: &impl Print, what: &str, right: bool) -> io::Result<()> {
+    let answer = if right { "yes" } else { "no" };
+    println!(rt; "{what}: {answer}")
 }

@@ -3,6 +3,7 @@
 #![tactic(auto)]
 
 pub mod floats;
+pub mod input;
 pub mod settings;
 pub mod sides;
 pub mod words;

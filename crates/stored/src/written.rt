@@ -1,23 +1,20 @@
 // Answers of several words: each in hex behind a space, all on one line.
+use std::io;
 
-pub fn word(value: u64) {
-    io::write_all(libc::STDOUT_FILENO, b" ");
-    io::print_hex(libc::STDOUT_FILENO, value, 1);
+pub fn word(rt: &impl Print, value: u64) -> io::Result<()> {
+    print!(rt; " {value:x}")
 }
 
-pub fn end() {
-    io::write_all(libc::STDOUT_FILENO, b"\n");
+pub fn end(rt: &impl Print) -> io::Result<()> {
+    println!(rt)
 }
 
 // The first `n` entries, or all of them.
-pub fn wholes(list: &[u32], n: usize) {
-    let mut i = 0;
-    while i < list.len() {
-        if i < n {
-            word(wide(list[i]));
-        }
-        i += 1;
+pub fn wholes(rt: &impl Print, list: &[u32], n: usize) -> io::Result<()> {
+    for x in list.iter().take(n) {
+        word(rt, wide(*x))?;
     }
+    Ok(())
 }
 
 fn wide(x: u32) -> u64 {
@@ -25,14 +22,11 @@ fn wide(x: u32) -> u64 {
 }
 
 // The same for bytes.
-pub fn bytes(list: &[u8], n: usize) {
-    let mut i = 0;
-    while i < list.len() {
-        if i < n {
-            word(wide_byte(list[i]));
-        }
-        i += 1;
+pub fn bytes(rt: &impl Print, list: &[u8], n: usize) -> io::Result<()> {
+    for x in list.iter().take(n) {
+        word(rt, wide_byte(*x))?;
     }
+    Ok(())
 }
 
 fn wide_byte(x: u8) -> u64 {
@@ -40,12 +34,9 @@ fn wide_byte(x: u8) -> u64 {
 }
 
 // The bits of the first `n` floats, or of all of them.
-pub fn floats(list: &[f64], n: usize) {
-    let mut i = 0;
-    while i < list.len() {
-        if i < n {
-            word(crate::floats::bits_of(list[i]));
-        }
-        i += 1;
+pub fn floats(rt: &impl Print, list: &[f64], n: usize) -> io::Result<()> {
+    for x in list.iter().take(n) {
+        word(rt, crate::floats::bits_of(*x))?;
     }
+    Ok(())
 }
