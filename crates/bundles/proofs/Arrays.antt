@@ -11,7 +11,7 @@ use types.Logic.{Logic, sem}
 use types.Kit.{‵, ◌$◌, ◌∵◌, !, qed, fjoin, fpack, done}
 use denote.RattleType.{RattleType}
 use denote.Shadow.{pure_i}
-use denote.Ref.{Bor}
+use denote.Ref.{MutBor}
 use denote.Array.{Array, array_val, shape, each}
 use denote.Slice.{slice_ty, slice_val}
 use denote.Signature.{Slot, plain, mut_slice_of}
@@ -27,7 +27,7 @@ moved τ = slice_ty (ty_ref erased mut τ)
 abbrev pub slot : RattleType → Slot 1
 slot E = mut_slice_of (0 ∷ []) tt (plain (λ _. E))
 
-abbrev pub val_of : {X : Type 0} → Bor (List X) → Val
+abbrev pub val_of : {X : Type 0} → MutBor (List X) → Val
 val_of x = slice_val x.ref_ptr (length x.now)
 
 pub array_owned : {M : Type 1} {𝓤 : Ura M} (𝓛 : Logic 𝓤) (R : RattleType) (xs : List R.Denot) (us : List Val)

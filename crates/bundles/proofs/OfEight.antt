@@ -33,6 +33,8 @@ abbrev pub function : Ty → Fn
 function τ = record {
   lifetimes = 1;
   outlives = [];
+  ty_params = [];
+  givens = 0;
   params = 8;
   locals = local (ty_array (list τ) 8) value_local ∷ local (list τ) value_local ∷ local (list τ) value_local ∷ local (list τ) value_local ∷ local (list τ) value_local ∷ local (list τ) value_local ∷ local (list τ) value_local ∷ local (list τ) value_local ∷ local (list τ) value_local ∷ local (ty_ref erased mut τ) value_local ∷ local (moved τ) value_local ∷ local (moved τ) value_local ∷ local (moved τ) value_local ∷ local (moved τ) value_local ∷ local (moved τ) value_local ∷ local (moved τ) value_local ∷ local (moved τ) value_local ∷ local (moved τ) value_local ∷ [];
   body = seq (assign (place 9 []) (addr_of (place 1 (field 0 ∷ deref τ ∷ [])))) (seq (assign (place 10 []) (aggregate (copy (place 9 []) ∷ copy (place 1 (field 1 ∷ [])) ∷ []))) (seq (assign (place 11 []) (rv_opd (copy (place 2 [])))) (seq (assign (place 12 []) (rv_opd (copy (place 3 [])))) (seq (assign (place 13 []) (rv_opd (copy (place 4 [])))) (seq (assign (place 14 []) (rv_opd (copy (place 5 [])))) (seq (assign (place 15 []) (rv_opd (copy (place 6 [])))) (seq (assign (place 16 []) (rv_opd (copy (place 7 [])))) (seq (assign (place 17 []) (rv_opd (copy (place 8 [])))) (seq (assign (place 0 []) (aggregate (copy (place 10 []) ∷ copy (place 11 []) ∷ copy (place 12 []) ∷ copy (place 13 []) ∷ copy (place 14 []) ∷ copy (place 15 []) ∷ copy (place 16 []) ∷ copy (place 17 []) ∷ []))) (return))))))))));

@@ -33,6 +33,8 @@ abbrev pub function : Ty → Fn
 function τ = record {
   lifetimes = 1;
   outlives = [];
+  ty_params = [];
+  givens = 0;
   params = 4;
   locals = local (ty_array (list τ) 4) value_local ∷ local (list τ) value_local ∷ local (list τ) value_local ∷ local (list τ) value_local ∷ local (list τ) value_local ∷ local (ty_ref erased mut τ) value_local ∷ local (moved τ) value_local ∷ local (moved τ) value_local ∷ local (moved τ) value_local ∷ local (moved τ) value_local ∷ [];
   body = seq (assign (place 5 []) (addr_of (place 1 (field 0 ∷ deref τ ∷ [])))) (seq (assign (place 6 []) (aggregate (copy (place 5 []) ∷ copy (place 1 (field 1 ∷ [])) ∷ []))) (seq (assign (place 7 []) (rv_opd (copy (place 2 [])))) (seq (assign (place 8 []) (rv_opd (copy (place 3 [])))) (seq (assign (place 9 []) (rv_opd (copy (place 4 [])))) (seq (assign (place 0 []) (aggregate (copy (place 6 []) ∷ copy (place 7 []) ∷ copy (place 8 []) ∷ copy (place 9 []) ∷ []))) (return))))));

@@ -11,9 +11,9 @@ use Rattle.bundles.specs.contracts.eight_of_floats as made
 use Rattle.bundles.proofs.eight_of_floats.Statement as stated
 use Rattle.bundles.proofs.eight_of_floats.Code as code
 
-pub eight-of-floats-spec : {M : Type 1} → stated.statement M
-unfolding code.routine tables_of
-eight-of-floats-spec 𝓤 𝓛 𝓜 𝓡 =
-    entered 𝓤 𝓛.H (triple_of 𝓛 made.signature (made.spec 𝓛 𝓜.mem 𝓡.run))
-    (tables 𝓤 𝓛.H 𝓜 𝓡 code.env).C (tables 𝓤 𝓛.H 𝓜 𝓡 code.env).Λ #made code.function (code.unfolded 𝓤 𝓛.H 𝓜 𝓡)
-    (walk.meets f64 (ty_float binary64) 𝓛 (tables_of 𝓤 𝓛.H 𝓜 (tables 𝓤 𝓛.H 𝓜 𝓡 code.env)))
+pub eight_of_floats_spec : {M : Type 1} → stated.statement M
+unfolding tables_of
+eight_of_floats_spec 𝓤 𝓛 𝓜 𝓡 wired =
+    entered 𝓤 𝓛.H (triple_of 𝓛 made.signature (made.spec 𝓛 𝓜.mem 𝓡.returns))
+    (tables 𝓤 𝓛.H 𝓜 𝓡 𝓡.env).C (tables 𝓤 𝓛.H 𝓜 𝓡 𝓡.env).Λ #made code.function (code.unfolded 𝓤 𝓛.H 𝓜 𝓡 wired)
+    (walk.meets f64 (ty_float binary64) 𝓛 (tables_of 𝓤 𝓛.H 𝓜 (tables 𝓤 𝓛.H 𝓜 𝓡 𝓡.env)))

@@ -10,9 +10,9 @@ use Rattle.bundles.specs.contracts.three as made
 use Rattle.bundles.proofs.three.Statement as stated
 use Rattle.bundles.proofs.three.Code as code
 
-pub three-spec : {M : Type 1} → stated.statement M
-unfolding code.routine tables_of
-three-spec 𝓤 𝓛 𝓜 𝓡 =
-    entered 𝓤 𝓛.H (triple_of 𝓛 made.signature (made.spec 𝓛 𝓜.mem 𝓡.run))
-    (tables 𝓤 𝓛.H 𝓜 𝓡 code.env).C (tables 𝓤 𝓛.H 𝓜 𝓡 code.env).Λ #made code.function (code.unfolded 𝓤 𝓛.H 𝓜 𝓡)
-    (walk.meets u32 (ty_int w32) 𝓛 (tables_of 𝓤 𝓛.H 𝓜 (tables 𝓤 𝓛.H 𝓜 𝓡 code.env)))
+pub three_spec : {M : Type 1} → stated.statement M
+unfolding tables_of
+three_spec 𝓤 𝓛 𝓜 𝓡 wired =
+    entered 𝓤 𝓛.H (triple_of 𝓛 made.signature (made.spec 𝓛 𝓜.mem 𝓡.returns))
+    (tables 𝓤 𝓛.H 𝓜 𝓡 𝓡.env).C (tables 𝓤 𝓛.H 𝓜 𝓡 𝓡.env).Λ #made code.function (code.unfolded 𝓤 𝓛.H 𝓜 𝓡 wired)
+    (walk.meets u32 (ty_int w32) 𝓛 (tables_of 𝓤 𝓛.H 𝓜 (tables 𝓤 𝓛.H 𝓜 𝓡 𝓡.env)))

@@ -1,0 +1,15 @@
+-- `contrast::columns::sum_of_columns` meets its contract: `sum` is that of the first i columns.
+use mathlib.Core.Path.{◌≡◌, refl}
+use Prim.Native.Nat.{◌+◌, ◌-◌, ◌*◌, ◌≤◌, ◌<◌}
+use native.Mathlib.Omega.{arith}
+use lib.ListN.{length}
+use Rattle.math.specs.Sum.{total}
+use Rattle.contrast.specs.Steps.{columns_darkest}
+use Rattle.contrast.proofs.Lines.{sum_split, columns_le, part_inside}
+use Rattle.contrast.proofs.columns.sum_of_columns.Given as goal
+
+abbrev pub invariant-loop-i : goal.invariant-loop-i
+invariant-loop-i l = (l.i ≤ l.n) × (l.sum ≤ 255 * l.i) × (l.sum ≡ total (columns_darkest l.raster l.start l.i l.rows l.w))
+
+abbrev pub decreases-loop-i : goal.decreases-loop-i
+decreases-loop-i l = l.n - l.i

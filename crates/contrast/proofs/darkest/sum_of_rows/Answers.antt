@@ -1,0 +1,53 @@
+-- `contrast::darkest::sum_of_rows` meets its contract: after i turns `sum` is that of the first i rows.
+use mathlib.Core.Path.{◌≡◌, refl}
+use Prim.Native.Nat.{◌+◌, ◌-◌, ◌*◌, ◌≤◌}
+use native.Mathlib.Omega.{arith}
+use lib.ListN.{length}
+use Rattle.math.specs.Sum.{total}
+use Rattle.paper.specs.Steps.{line}
+use Rattle.contrast.specs.Steps.{rows_darkest}
+use Rattle.contrast.proofs.Lines.{sum_more, darkest_le}
+use Rattle.contrast.proofs.darkest.sum_of_rows.Goals.{After-darkest_of, In-loop-i}
+use Rattle.contrast.proofs.darkest.sum_of_rows.Goals as goal
+
+pub loop-i-init : goal.loop-i-init
+unfolding total
+loop-i-init c = (omega arith, omega arith, refl)
+
+-- the next row lies in the raster
+inside : (c : In-loop-i) → c.args.start + c.loop-i.i * c.args.w + c.args.columns ≤ length c.args.raster.now
+inside c = c.requires.1 c.loop-i.i c.loop-i-test.true
+
+pub overflow_mul-i : goal.overflow_mul-i
+overflow_mul-i c = omega (arith, inside c)
+
+pub overflow_add-start : goal.overflow_add-start
+overflow_add-start c = omega (arith, inside c)
+
+pub darkest_of-requires : goal.darkest_of-requires
+darkest_of-requires c = inside c
+
+byte : (c : After-darkest_of) → c.darkest_of.result ≤ 255
+byte c =
+    let start = c.args in
+    rw c.darkest_of.ensures (darkest_le (line start.raster.now (start.start + c.loop-i.i * start.w) start.columns 1))
+
+pub overflow_cast-sum : goal.overflow_cast-sum
+overflow_cast-sum c = omega (arith, byte c)
+
+pub overflow_add-sum : goal.overflow_add-sum
+overflow_add-sum c = omega (arith, byte c, c.requires.0)
+
+pub loop-i-preserved : goal.loop-i-preserved
+loop-i-preserved c =
+    let start = c.args in
+    let b = byte c in (
+      omega arith,
+      omega arith,
+      omega (arith, c.loop-i.invariant.2, c.darkest_of.ensures, sum_more start.raster.now start.start c.loop-i.i start.columns start.w),
+    )
+
+pub returns : goal.returns
+returns c =
+    let end : c.loop-i.i ≡ c.args.n = omega arith in
+    rw end at c.loop-i.invariant.2

@@ -1,0 +1,16 @@
+-- `contrast::darkest::sum_of_rows` meets its contract: after i turns `sum` is that of the first i rows.
+use mathlib.Core.Path.{◌≡◌, refl}
+use Prim.Native.Nat.{◌+◌, ◌-◌, ◌*◌, ◌≤◌}
+use native.Mathlib.Omega.{arith}
+use lib.ListN.{length}
+use Rattle.math.specs.Sum.{total}
+use Rattle.paper.specs.Steps.{line}
+use Rattle.contrast.specs.Steps.{rows_darkest}
+use Rattle.contrast.proofs.Lines.{sum_more, darkest_le}
+use Rattle.contrast.proofs.darkest.sum_of_rows.Given as goal
+
+abbrev pub invariant-loop-i : goal.invariant-loop-i
+invariant-loop-i l = (l.i ≤ l.n) × (l.sum ≤ 255 * l.i) × (l.sum ≡ total (rows_darkest l.raster l.start l.i l.columns l.w))
+
+abbrev pub decreases-loop-i : goal.decreases-loop-i
+decreases-loop-i l = l.n - l.i

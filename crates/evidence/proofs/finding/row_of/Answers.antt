@@ -1,0 +1,28 @@
+-- `finding::row_of` meets its contract, kind by kind.
+use mathlib.Core.Path.{sym, ap, ◌∙◌}
+use Prim.Native.Nat.{ℕ}
+use lib.Ieee.{Float}
+use Rattle.evidence.specs.declared.finding.Finding.{Finding}
+use Rattle.evidence.specs.declared.finding.Row.{Row}
+use Rattle.evidence.specs.Finding.{row_with, no_evidence}
+use borrow.Author.Rules.{rules}
+use Rattle.evidence.proofs.finding.row_of.Goals as goal
+
+-- the row of a fold, its direction as a number
+abbrev fold_row : Finding → ℕ → Float → Row
+fold_row f d x =
+    record { bbox = f.bbox; kind = 19; a = d; b = 0; c = 0; log_odds = f.log_odds; first = f.first; second = no_evidence; length = x }
+
+pub returns-in-Table : goal.returns-in-Table
+returns-in-Table c = ap (row_with c.args.f) (sym c.kind-1.given.1)
+
+pub returns-in-FreeRules : goal.returns-in-FreeRules
+returns-in-FreeRules c = ap (row_with c.args.f) (sym c.kind-in-FreeRules-1.given.1)
+
+pub returns-in-Grid : goal.returns-in-Grid
+returns-in-Grid c = ap (row_with c.args.f) (sym c.kind-in-Grid-1.given.1)
+
+pub returns-in-Fold : goal.returns-in-Fold
+returns-in-Fold c =
+    let f = c.args.f in
+    ap (λ (d : ℕ). fold_row f d c.kind-in-Fold-1.given.0.1.0) c.direction.ensures ∙ ap (row_with f) (sym c.kind-in-Fold-1.given.1)

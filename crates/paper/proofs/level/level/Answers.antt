@@ -1,0 +1,76 @@
+-- `paper::level::level` meets its contract: `at_least` is the number of samples of at least v, and fewer than half are larger.
+use mathlib.Core.Path.{◌≡◌, refl}
+use Prim.Native.Nat.{ℕ, ◌+◌, ◌-◌, ◌^◌, ◌≤◌, ◌<◌}
+use native.Mathlib.Nat.{sub-add_cancel}
+use native.Mathlib.Omega.{arith}
+use mathlib.Core.List.{List}
+use mathlib.Core.Logic.{◌⊎◌, inl, inr}
+use lib.Dec.{leb}
+use lib.ListN.{length, get_or}
+use Rattle.paper.specs.Steps.{many, Tallied}
+use Rattle.paper.proofs.Levels.{count_le, brightest, above_zero, next_down, level_is}
+use Rattle.paper.proofs.level.level.Invariants.{Down}
+use Rattle.paper.proofs.level.level.Goals.{After-shared_slice_known-1, After-shared_slice_known-in-loop-at_least-1, In-loop-at_least}
+use Rattle.paper.proofs.level.level.Goals as goal
+
+-- some samples have these counts
+within : (c : After-shared_slice_known-1) → get_or c.args.counts.now 255 0 ≤ c.args.n
+within c =
+    let s = c.requires.2 in
+    omega (arith, count_le s.0 c.args.counts.now s.2 255 (omega arith), s.1)
+
+-- half of them are at least 0
+positive : (c : In-loop-at_least) → 1 ≤ c.loop-at_least.v
+positive c =
+    let s = c.requires.2 in
+    let d = c.loop-at_least.invariant.1 s.0 s.1 s.2 in
+    above_zero s.0 c.args.counts.now s.2 c.loop-at_least.v (rw s.1 (rw (← d.0) c.loop-at_least-test.true))
+
+next : (counts : List ℕ) (n half v at_least : ℕ) → 1 ≤ v → v ≤ 255 → at_least < half → Down counts n half v at_least → Down counts n half (v - 1) (at_least + get_or counts (v - 1) 0)
+next counts n half v at_least p l few down xs e t =
+    let d = down xs e t in
+    (rw d.0 (next_down xs counts t v p l), inr (rw (sub-add_cancel p) (rw (← d.0) few)))
+
+within_2 : (c : After-shared_slice_known-in-loop-at_least-1) → (c.loop-at_least.at_least < 2 ^ 32) × (get_or c.args.counts.now (c.loop-at_least.v - 1) 0 < 2 ^ 32)
+within_2 c =
+    let s = c.requires.2 in
+    let small = c.requires.0 in
+    let counts = c.args.counts.now in
+    (omega arith, omega (arith, count_le s.0 counts s.2 (c.loop-at_least.v - 1) (omega arith), s.1))
+
+pub bounds-counts-255 : goal.bounds-counts-255
+bounds-counts-255 c = c.requires.1
+
+pub overflow_cast-at_least : goal.overflow_cast-at_least
+overflow_cast-at_least c = omega (arith, within c)
+
+pub loop-at_least-init : goal.loop-at_least-init
+loop-at_least-init c = (omega arith, λ xs e t. (brightest xs c.args.counts.now t, inl refl))
+
+pub overflow_sub-v : goal.overflow_sub-v
+overflow_sub-v c = positive c
+
+pub bounds-counts-v : goal.bounds-counts-v
+bounds-counts-v c = omega (arith, c.requires.1)
+
+pub overflow_cast-at_least-in-loop-at_least-2 : goal.overflow_cast-at_least-in-loop-at_least-2
+overflow_cast-at_least-in-loop-at_least-2 c = omega (arith, within_2 c)
+
+pub overflow_add-at_least : goal.overflow_add-at_least
+overflow_add-at_least c = omega (arith, within_2 c)
+
+pub loop-at_least-smaller : goal.loop-at_least-smaller
+loop-at_least-smaller c = omega (arith, positive (goal.at.loop-at_least-smaller c).In-loop-at_least)
+
+pub loop-at_least-preserved : goal.loop-at_least-preserved
+loop-at_least-preserved c =
+    let v = c.loop-at_least.v in
+    let counts = c.args.counts.now in
+    let p = positive (goal.at.loop-at_least-preserved c).In-loop-at_least in
+    (omega arith, λ xs e t. next counts _ _ v _ p c.loop-at_least.invariant.0 c.loop-at_least-test.true c.loop-at_least.invariant.1 xs e t)
+
+pub returns : goal.returns
+returns c =
+    λ xs e t.
+    let s = c.loop-at_least.invariant.1 xs e t in
+    level_is xs c.args.counts.now t c.loop-at_least.v (rw e (rw (← s.0) c.loop-at_least-test.false)) (rw e s.1)
