@@ -85,7 +85,7 @@ module _ (join : ℕ) (s : ℕ → Segment) (n : ℕ) (small : (i : ℕ) → i <
   pub between : {f p : ℕ} → FirstAtLeast n keys order (first_centre join (s i)) f → FirstAtLeast n keys order (last_centre join (s i) + 1) p → (l : ℕ) → f ≤ l → l < p
       → ((s (at l)).horizontal ≡ true) × (span_holds join (s i) (s (at l)).centre2 ≡ true)
   between {f} {p} F P l from to =
-      let inside : l < n = omega (arith, P.up_to_lem) in
+      let inside : l < n = omega (arith, P.up_to) in
       let k = key l inside in
       let low = F.behind l from inside in
       let high = P.before l to in
@@ -104,7 +104,7 @@ module _ (join : ℕ) (s : ℕ → Segment) (n : ℕ) (small : (i : ℕ) → i <
     far_before F l h t =
         let low = (span_of join (s i) (s (at l)).centre2 (held join (s i) (s (at l)) t)).0 in
         let early = F.before l h in
-        let inside : l < n = omega (arith, F.up_to_lem) in omega (arith, key l inside, key_of_horizontal (s (at l)) (lies join (s i) (s (at l)) t stands))
+        let inside : l < n = omega (arith, F.up_to) in omega (arith, key l inside, key_of_horizontal (s (at l)) (lies join (s i) (s (at l)) t stands))
 
     -- what touches stands before the past place
     pub all_met : {p k : ℕ} → FirstAtLeast n keys order (last_centre join (s i) + 1) p → p ≤ k → (b : ℕ) → b < n → Touch join s i b → Met join s n at k b

@@ -30,8 +30,8 @@ onward : (mask : List ℕ) (w : ℕ) (glyphs : List ℕ) (l : Limits) {rs₀ ms�
     → Below least l.min_size → Finding mask w glyphs l rs₀ ms₀ cs₀ rs ms cs n k → NextWide glyphs least k r
     → Finding mask w glyphs l rs₀ ms₀ cs₀ rs ms cs n r
 onward mask w glyphs l {r = r} R e F N =
-    skip mask w glyphs l R F r N.later N.up_to_lem (λ j a b.
-    let s = widths R j (omega (arith, b, N.up_to_lem)) in
+    skip mask w glyphs l R F r N.later N.up_to (λ j a b.
+    let s = widths R j (omega (arith, b, N.up_to)) in
     narrow_passed (ink_at w mask) l (rect_at glyphs j) (e (width_of (rect_at glyphs j)) (omega (arith, s.0, s.1)) (N.narrow j a b)))
 
 abbrev invariant-loop : tie.invariant-loop

@@ -1,0 +1,47 @@
+-- `connect::write_keys` meets its contract: one key more a turn.
+use mathlib.Core.Path.{◌≡◌, ap, ◌∙◌}
+use Prim.Native.Nat.{ℕ, ◌-◌}
+use native.Mathlib.Omega.{arith}
+use lib.ListN.{length}
+use Rattle.sorted.proofs.Writing.{Writing, write_begin, write_turn}
+use Rattle.meeting.specs.declared.segment.Segment.{Segment}
+use Rattle.meeting.specs.Segments.{ruling_at}
+use Rattle.crossings.specs.Steps.{cross_key}
+use Rattle.crossings.proofs.connect.write_keys.Goals as goal
+
+module _ (s : ℕ → Segment) where
+  abbrev ruling_key_lem : ℕ → ℕ → Type 0
+  ruling_key_lem i v = v ≡ cross_key (s i)
+
+  read : {a : Segment} {v : ℕ} (i : ℕ) → a ≡ s i → v ≡ cross_key a → ruling_key_lem i v
+  read i e f = f ∙ ap cross_key e
+
+pub loop-k-init : goal.loop-k-init
+loop-k-init c =
+    write_begin (ruling_key_lem (ruling_at c.args.rects.now c.args.directions.now c.args.chosen.now)) (length c.args.chosen.now) c.args.keys.now
+
+pub ruling_at-requires : goal.ruling_at-requires
+ruling_at-requires c = (c.requires.0, c.loop-k-test.true)
+
+pub offset_bounds-keys-k : goal.offset_bounds-keys-k
+offset_bounds-keys-k c = omega (arith, c.loop-k-test.true, c.requires.0.few)
+
+pub bounds-keys-k : goal.bounds-keys-k
+bounds-keys-k c = omega (arith, c.loop-k-test.true, c.requires.1, c.loop-k.invariant.long)
+
+pub overflow_add-k : goal.overflow_add-k
+overflow_add-k c = omega (arith, c.loop-k-test.true, c.requires.0.few)
+
+pub loop-k-smaller : goal.loop-k-smaller
+loop-k-smaller c = omega (arith, c.loop-k-test.true)
+
+pub loop-k-preserved : goal.loop-k-preserved
+loop-k-preserved c =
+    let s = ruling_at c.args.rects.now c.args.directions.now c.args.chosen.now in
+    write_turn (ruling_key_lem s) (length c.args.chosen.now) c.args.keys.now c.loop-k.invariant c.loop-k-test.true c.requires.1 (read s c.loop-k.k c.ruling_at.ensures c.key_of.ensures)
+
+pub shape_of-keys : goal.shape_of-keys
+shape_of-keys c = c.loop-k.invariant.long
+
+pub returns : goal.returns
+returns c = λ i h. c.loop-k.invariant.done i (omega (arith, c.loop-k-test.false))

@@ -1,0 +1,16 @@
+-- `connect::write_keys` meets its contract: one key more a turn.
+use mathlib.Core.Path.{◌≡◌, ap, ◌∙◌}
+use Prim.Native.Nat.{ℕ, ◌-◌}
+use native.Mathlib.Omega.{arith}
+use lib.ListN.{length}
+use Rattle.sorted.proofs.Writing.{Writing, write_begin, write_turn}
+use Rattle.meeting.specs.declared.segment.Segment.{Segment}
+use Rattle.meeting.specs.Segments.{ruling_at}
+use Rattle.crossings.specs.Steps.{cross_key}
+use Rattle.crossings.proofs.connect.write_keys.Given as goal
+
+abbrev pub invariant-loop-k : goal.invariant-loop-k
+invariant-loop-k l = Writing (ruling_key_lem (ruling_at l.rects l.directions l.chosen)) (length l.chosen) l.initial.keys l.keys l.k
+
+abbrev pub decreases-loop-k : goal.decreases-loop-k
+decreases-loop-k l = length l.chosen - l.k

@@ -1,0 +1,10 @@
+-- `edges::share` meets its contract.
+use Rattle.std.proofs.Common.{ℕ, ap₂, rules}
+use lib.Ieee.{binary64, div}
+use Rattle.math.specs.Sum.{whole}
+use Rattle.glyph_tests.specs.Steps.{line_share}
+use Rattle.glyph_tests.proofs.edges.share.Goals as goal
+
+pub returns : goal.returns
+unfolding line_share
+returns c = ap₂ (λ (a b : ℕ). div binary64 (whole a) (whole b)) c.longest-best.ensures c.lines_of.ensures

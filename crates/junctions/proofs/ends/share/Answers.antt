@@ -1,0 +1,46 @@
+-- `ends::share` meets its contract: the members are put in order, and both counts are small enough to be floats.
+use mathlib.Core.Path.{◌≡◌, ap}
+use mathlib.Core.List.{List}
+use Prim.Native.Nat.{ℕ, ◌*◌, ◌≤◌, ◌^◌}
+use native.Mathlib.Omega.{arith}
+use lib.IntN.{pos}
+use lib.Ieee.{binary64, div, of_int}
+use lib.ListN.{length}
+use borrow.Author.Rules.{rules}
+use Rattle.math.proofs.Sums.{as_float}
+use Rattle.meeting.specs.declared.segment.Segment.{Segment}
+use Rattle.meeting.specs.Segments.{ruling_at}
+use Rattle.meeting.specs.Meeting.{joined_ends, share_of}
+use Rattle.junctions.proofs.Bound.{joined_le}
+use Rattle.junctions.proofs.ends.share.Goals as goal
+
+small : {r : ℕ} (join : ℕ) (s : ℕ → Segment) (set : List ℕ) → r ≡ joined_ends join s set → length set ≤ 4096 → r ≤ 2 ^ 53
+small join s set e h = omega (arith, joined_le join s set)
+
+one_division : {r : ℕ} (join : ℕ) (s : ℕ → Segment) (set : List ℕ) → r ≡ joined_ends join s set
+    → div binary64 (of_int binary64 (pos r)) (of_int binary64 (pos (2 * length set))) ≡ share_of join s set
+unfolding share_of
+one_division join s set e = ap (λ (k : ℕ). div binary64 (of_int binary64 (pos k)) (of_int binary64 (pos (2 * length set)))) e
+
+pub write_keys-requires : goal.write_keys-requires
+write_keys-requires c = (c.requires.join_bound.1, c.requires.join_bound.2, c.requires.set_in_bounds.2)
+
+pub joined_ends-joined-requires : goal.joined_ends-joined-requires
+joined_ends-joined-requires c =
+    (c.requires.join_bound.0, c.requires.join_bound.1, c.requires.join_bound.2, record { keyed = c.write_keys.ensures; ordered = c.arrange.ensures.0 })
+
+pub int_to_float-result : goal.int_to_float-result
+int_to_float-result c =
+    as_float c.joined_ends-joined.result (small c.args.join (ruling_at c.args.rects.now c.args.directions.now c.args.chosen.now) c.args.set.now c.joined_ends-joined.ensures (omega (arith, c.requires.join_bound.2.short, c.requires.join_bound.1.few)))
+
+pub overflow_mul-result : goal.overflow_mul-result
+overflow_mul-result c =
+    omega (arith, c.requires.join_bound.2.short, c.requires.join_bound.1.few)
+
+pub int_to_float-result-2 : goal.int_to_float-result-2
+int_to_float-result-2 c =
+    as_float (2 * length c.args.set.now) (omega (arith, c.requires.join_bound.2.short, c.requires.join_bound.1.few))
+
+pub returns : goal.returns
+returns c =
+    one_division c.args.join (ruling_at c.args.rects.now c.args.directions.now c.args.chosen.now) c.args.set.now c.joined_ends-joined.ensures

@@ -1,0 +1,19 @@
+-- `ends::write_keys` meets its contract: one key more a turn.
+use mathlib.Core.Path.{◌≡◌, ap, ◌∙◌}
+use mathlib.Core.List.{List}
+use Prim.Native.Nat.{ℕ, ◌-◌}
+use native.Mathlib.Omega.{arith}
+use borrow.Author.Rules.{scaled_Fits}
+use lib.ListN.{length, get_or, set}
+use Rattle.sorted.proofs.Writing.{Writing, write_begin, write_turn}
+use Rattle.meeting.specs.declared.segment.Segment.{Segment}
+use Rattle.meeting.specs.Segments.{ruling_at}
+use Rattle.junctions.specs.Steps.{centre_key}
+use Rattle.meeting.proofs.Rulings.{member_within}
+use Rattle.junctions.proofs.ends.write_keys.Given as goal
+
+abbrev pub invariant-loop-k : goal.invariant-loop-k
+invariant-loop-k l = Writing (member_key (ruling_at l.rects l.directions l.chosen) l.set) (length l.set) l.initial.keys l.keys l.k
+
+abbrev pub decreases-loop-k : goal.decreases-loop-k
+decreases-loop-k l = length l.set - l.k

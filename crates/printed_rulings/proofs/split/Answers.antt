@@ -1,0 +1,85 @@
+-- `printed_rulings::split` meets its contract: after k turns the printed and the faint ones of the first k rulings are listed.
+use mathlib.Core.Path.{◌≡◌, sym, ap, subst, ◌∙◌}
+use mathlib.Core.Bool.{Bool, true, false, not}
+use mathlib.Core.Logic.{⊎_elim}
+use mathlib.Core.List.{List}
+use Prim.Native.Nat.{ℕ, ◌+◌, ◌-◌, ◌≤◌, ◌<◌, zero-le}
+use native.Mathlib.Omega.{arith}
+use lib.Ieee.{Float, nan}
+use lib.ListN.{length, get_or, set}
+use Rattle.lists.proofs.Gathered.{Gathered, gathered_none, gathered_low, gathered_one, gathered_past}
+use Rattle.params.specs.declared.settings.RulingsParams.{RulingsParams}
+use Rattle.printed_rulings.specs.Printed.{printed}
+use Rattle.printed_rulings.specs.Steps.{SplitByContrast}
+use Rattle.printed_rulings.proofs.split.Invariants.{Progress, begin, done, low_dark, low_pale, on_dark, on_pale}
+use Rattle.printed_rulings.proofs.split.Goals as goal
+
+-- where the two ways meet, lists and counts are what the way left
+moved : {p : RulingsParams} {cs : List Float} {ps fs ps' ps'' fs' fs'' : List ℕ} {a a' b b' k : ℕ} → Progress p cs ps fs ps' fs' a b k
+    → ps'' ≡ ps' → fs'' ≡ fs' → a' ≡ a → b' ≡ b → Progress p cs ps fs ps'' fs'' a' b' k
+moved P x y u v = rw (x, y, u, v) P
+
+pub loop-k-init : goal.loop-k-init
+loop-k-init c = begin c.args.p c.args.contrasts.now c.args.printed.now c.args.faint.now
+
+pub offset_bounds-contrasts-k : goal.offset_bounds-contrasts-k
+offset_bounds-contrasts-k c = omega (arith, c.loop-k-test.true, c.requires.few)
+
+pub bounds-contrasts-k : goal.bounds-contrasts-k
+bounds-contrasts-k c = c.loop-k-test.true
+
+pub overflow_cast-printed : goal.overflow_cast-printed
+overflow_cast-printed c =
+    omega (arith, c.loop-k-test.true, c.requires.few, low_dark c.args.p c.args.contrasts.now c.loop-k.invariant)
+
+pub offset_bounds-printed-dark : goal.offset_bounds-printed-dark
+offset_bounds-printed-dark c =
+    omega (arith, c.loop-k-test.true, c.requires.few, low_dark c.args.p c.args.contrasts.now c.loop-k.invariant)
+
+pub bounds-printed-dark : goal.bounds-printed-dark
+bounds-printed-dark c =
+    let P = c.loop-k.invariant in
+    omega (arith, c.loop-k-test.true, c.requires.printed, P.dark.long, low_dark c.args.p c.args.contrasts.now P)
+
+pub overflow_add-dark : goal.overflow_add-dark
+overflow_add-dark c =
+    omega (arith, c.loop-k-test.true, c.requires.few, low_dark c.args.p c.args.contrasts.now c.loop-k.invariant)
+
+pub overflow_cast-faint : goal.overflow_cast-faint
+overflow_cast-faint c = omega (arith, c.loop-k-test.true, c.requires.few)
+
+pub offset_bounds-faint-pale : goal.offset_bounds-faint-pale
+offset_bounds-faint-pale c =
+    omega (arith, c.loop-k-test.true, c.requires.few, low_pale c.args.p c.args.contrasts.now c.loop-k.invariant)
+
+pub bounds-faint-pale : goal.bounds-faint-pale
+bounds-faint-pale c =
+    let P = c.loop-k.invariant in
+    omega (arith, c.loop-k-test.true, c.requires.faint, P.pale.long, low_pale c.args.p c.args.contrasts.now P)
+
+pub overflow_add-pale : goal.overflow_add-pale
+overflow_add-pale c =
+    omega (arith, c.loop-k-test.true, c.requires.few, low_pale c.args.p c.args.contrasts.now c.loop-k.invariant)
+
+pub overflow_add-k : goal.overflow_add-k
+overflow_add-k c = omega (arith, c.loop-k-test.true, c.requires.few)
+
+pub loop-k-smaller : goal.loop-k-smaller
+loop-k-smaller c = omega (arith, c.loop-k-test.true)
+
+pub loop-k-preserved : goal.loop-k-preserved
+loop-k-preserved c =
+    let P = c.loop-k.invariant in
+    let l = c.loop-k-test.true in
+    let e = c.is_printed.ensures in
+    ⊎_elim (λ w. moved (on_dark c.args.p c.args.contrasts.now P l c.requires.printed e w.0.taken) w.1 w.2 w.3 w.4)
+    (λ w. moved (on_pale c.args.p c.args.contrasts.now P l c.requires.faint e w.0.left) w.1 w.2 w.3 w.4) c.if-is_printed.branch
+
+pub shape_of-printed : goal.shape_of-printed
+shape_of-printed c = c.loop-k.invariant.dark.long
+
+pub shape_of-faint : goal.shape_of-faint
+shape_of-faint c = c.loop-k.invariant.pale.long
+
+pub returns : goal.returns
+returns c = done c.args.p c.args.contrasts.now c.loop-k.invariant c.loop-k-test.false

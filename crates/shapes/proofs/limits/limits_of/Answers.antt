@@ -1,0 +1,12 @@
+-- `limits::limits_of` meets its contract: passed questions bound both limits.
+use Rattle.params.proofs.Limits.{limits, limit_fits}
+use Rattle.shapes.proofs.limits.limits_of.Goals as goal
+
+pub limit-join-requires : goal.limit-join-requires
+limit-join-requires c = limit_fits (limits c.args.p c.args.xheight c.requires).join
+
+pub limit-cluster-requires : goal.limit-cluster-requires
+limit-cluster-requires c = limit_fits (limits c.args.p c.args.xheight c.requires).line
+
+pub returns : goal.returns
+returns c = λ i. record { join = c.limit-join.ensures i; cluster = c.limit-cluster.ensures i; min_horizontal = c.args.p.table_min_horizontal; min_vertical = c.args.p.table_min_vertical }
