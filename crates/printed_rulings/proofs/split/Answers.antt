@@ -1,7 +1,6 @@
 -- `printed_rulings::split` meets its contract: after k turns the printed and the faint ones of the first k rulings are listed.
 use mathlib.Core.Path.{◌≡◌, sym, ap, subst, ◌∙◌}
 use mathlib.Core.Bool.{Bool, true, false, not}
-use mathlib.Core.Logic.{⊎_elim}
 use mathlib.Core.List.{List}
 use Prim.Native.Nat.{ℕ, ◌+◌, ◌-◌, ◌≤◌, ◌<◌, zero-le}
 use native.Mathlib.Omega.{arith}
@@ -12,6 +11,7 @@ use Rattle.params.specs.declared.settings.RulingsParams.{RulingsParams}
 use Rattle.printed_rulings.specs.Printed.{printed}
 use Rattle.printed_rulings.specs.Steps.{SplitByContrast}
 use Rattle.printed_rulings.proofs.split.Invariants.{Progress, begin, done, low_dark, low_pale, on_dark, on_pale}
+use Rattle.printed_rulings.proofs.split.Goals.{then-is_printed, else-is_printed}
 use Rattle.printed_rulings.proofs.split.Goals as goal
 
 -- where the two ways meet, lists and counts are what the way left
@@ -72,8 +72,10 @@ loop-k-preserved c =
     let P = c.loop-k.invariant in
     let l = c.loop-k-test.true in
     let e = c.is_printed.ensures in
-    ⊎_elim (λ w. moved (on_dark c.args.p c.args.contrasts.now P l c.requires.printed e w.0.taken) w.1 w.2 w.3 w.4)
-    (λ w. moved (on_pale c.args.p c.args.contrasts.now P l c.requires.faint e w.0.left) w.1 w.2 w.3 w.4) c.if-is_printed.branch
+    elim c.if-is_printed.branch [
+      | then-is_printed w ↦ moved (on_dark c.args.p c.args.contrasts.now P l c.requires.printed e w.if-is_printed.true) w.printed-is w.faint-is w.dark-is w.pale-is
+      | else-is_printed w ↦ moved (on_pale c.args.p c.args.contrasts.now P l c.requires.faint e w.if-is_printed.false) w.printed-is w.faint-is w.dark-is w.pale-is
+    ]
 
 pub shape_of-printed : goal.shape_of-printed
 shape_of-printed c = c.loop-k.invariant.dark.long

@@ -11,19 +11,8 @@ use Rattle.meeting.specs.declared.segment.Segment.{Segment}
 use Rattle.meeting.specs.Segments.{ruling_at}
 use Rattle.crossings.specs.Steps.{Tried}
 use Rattle.crossings.proofs.Crossing.{none_tried, all_tried}
+use Rattle.crossings.proofs.connect.join_all.Invariants.{begun, turn}
 use Rattle.crossings.proofs.connect.join_all.Goals as goal
-
-module _ (join : ℕ) (s : ℕ → Segment) where
-  record Rows (n : ℕ) (p q : List ℕ) (i : ℕ) : Type 0 where
-    up_to : i ≤ n
-    long : length q ≡ length p
-    seen : Joins n (Below n) (Tried join s i) q
-
-  begun : {n : ℕ} {p q : List ℕ} → Room n p → q ≡ written (below n) p → Rows n q q 0
-  begun {n} room e = record { up_to = zero-le; long = refl; seen = rw e (none_tried join s n room) }
-
-  turn : {n : ℕ} {p q q' : List ℕ} {i : ℕ} → Rows n p q i → i < n → length q' ≡ length q → Joins n (Below n) (Tried join s (i + 1)) q' → Rows n p q' (i + 1)
-  turn W l long J = record { up_to = omega arith; long = long ∙ W.long; seen = J }
 
 pub begin-requires : goal.begin-requires
 begin-requires c = c.requires.3

@@ -7,14 +7,8 @@ use Rattle.sorted.proofs.Writing.{Writing, write_begin, write_turn}
 use Rattle.meeting.specs.declared.segment.Segment.{Segment}
 use Rattle.meeting.specs.Segments.{ruling_at}
 use Rattle.crossings.specs.Steps.{cross_key}
+use Rattle.crossings.proofs.connect.write_keys.Invariants.{read, ruling_key_lem}
 use Rattle.crossings.proofs.connect.write_keys.Goals as goal
-
-module _ (s : ℕ → Segment) where
-  abbrev ruling_key_lem : ℕ → ℕ → Type 0
-  ruling_key_lem i v = v ≡ cross_key (s i)
-
-  read : {a : Segment} {v : ℕ} (i : ℕ) → a ≡ s i → v ≡ cross_key a → ruling_key_lem i v
-  read i e f = f ∙ ap cross_key e
 
 pub loop-k-init : goal.loop-k-init
 loop-k-init c =

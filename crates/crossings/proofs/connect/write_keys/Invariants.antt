@@ -9,6 +9,13 @@ use Rattle.meeting.specs.Segments.{ruling_at}
 use Rattle.crossings.specs.Steps.{cross_key}
 use Rattle.crossings.proofs.connect.write_keys.Given as goal
 
+module _ (s : ℕ → Segment) where
+  abbrev pub ruling_key_lem : ℕ → ℕ → Type 0
+  ruling_key_lem i v = v ≡ cross_key (s i)
+
+  pub read : {a : Segment} {v : ℕ} (i : ℕ) → a ≡ s i → v ≡ cross_key a → ruling_key_lem i v
+  read i e f = f ∙ ap cross_key e
+
 abbrev pub invariant-loop-k : goal.invariant-loop-k
 invariant-loop-k l = Writing (ruling_key_lem (ruling_at l.rects l.directions l.chosen)) (length l.chosen) l.initial.keys l.keys l.k
 

@@ -8,23 +8,26 @@ use Rattle.glyph_tests.proofs.found.test_glyph.Goals as goal
 
 pub returns-then-size_missed : goal.returns-then-size_missed
 returns-then-size_missed c =
-    let a = c.args in let ink = ink_at a.w a.mask.now in
+    let a = c.args in
+    let ink = ink_at a.w a.mask.now in
     by_loose_size ink a.l a.r (size_says a.r a.l.min_size a.l.slack c.width.ensures c.height.ensures c.size_missed.ensures c.if-size_missed.true)
 
 pub test_frame-requires : goal.test_frame-requires
 test_frame-requires c =
     let a = c.args in
     let ink = ink_at a.w a.mask.now in
-    let h = has_one ink a.l.box_overshoot_fraction a.r c.frame_of-framed.ensures c.framed-1.given.1 in
+    let h = has_one ink a.l.box_overshoot_fraction a.r c.frame_of-framed.ensures c.in-Frame.is in
     (rw h.1 (frame_readable ink a.l.box_overshoot_fraction a.r a.mask.now a.w c.requires.0 h.0), c.requires.1)
 
 pub returns-in-Nothing : goal.returns-in-Nothing
 returns-in-Nothing c =
-    let a = c.args in let ink = ink_at a.w a.mask.now in
-    by_frame ink a.l a.r (size_says a.r a.l.min_size a.l.slack c.width.ensures c.height.ensures c.size_missed.ensures c.if-size_missed.false) (frameless ink a.l.box_overshoot_fraction a.r c.frame_of-framed.ensures c.enum_told-1.given.1)
+    let a = c.args in
+    let ink = ink_at a.w a.mask.now in
+    by_frame ink a.l a.r (size_says a.r a.l.min_size a.l.slack c.width.ensures c.height.ensures c.size_missed.ensures c.if-size_missed.false) (frameless ink a.l.box_overshoot_fraction a.r c.frame_of-framed.ensures c.in-Nothing.is)
 
 pub returns-in-Frame : goal.returns-in-Frame
 returns-in-Frame c =
-    let a = c.args in let ink = ink_at a.w a.mask.now in
-    let h = has_one ink a.l.box_overshoot_fraction a.r c.frame_of-framed.ensures c.framed-1.given.1 in
+    let a = c.args in
+    let ink = ink_at a.w a.mask.now in
+    let h = has_one ink a.l.box_overshoot_fraction a.r c.frame_of-framed.ensures c.in-Frame.is in
     c.test_frame.ensures ∙ ap (found_in ink a.l) h.1 ∙ by_its_frame ink a.l a.r (size_says a.r a.l.min_size a.l.slack c.width.ensures c.height.ensures c.size_missed.ensures c.if-size_missed.false) h.0

@@ -66,7 +66,7 @@ joined_by-requires c =
 
 pub returns-then-joined_by : goal.returns-then-joined_by
 returns-then-joined_by c =
-    search_found c.args.join (ruling_at c.args.rects.now c.args.directions.now c.args.chosen.now) c.args.set.now c.args.a c.args.end c.requires.3 c.loop-k-test.true (sym c.Joined-by.ensures ∙ c.if-joined_by.true)
+    search_found c.args.join (ruling_at c.args.rects.now c.args.directions.now c.args.chosen.now) c.args.set.now c.args.a c.args.end c.requires.3 c.loop-k-test.true (sym c.joined_by.ensures ∙ c.if-joined_by.true)
 
 pub overflow_add-k : goal.overflow_add-k
 overflow_add-k c = omega (arith, c.loop-k-test.true, c.requires.3.ordered.small)
@@ -76,7 +76,7 @@ loop-k-smaller c = omega (arith, c.loop-k-test.true)
 
 pub loop-k-preserved : goal.loop-k-preserved
 loop-k-preserved c =
-    search_turn c.args.join (ruling_at c.args.rects.now c.args.directions.now c.args.chosen.now) c.args.set.now c.args.a c.args.end c.requires.3 c.loop-k.invariant c.loop-k-test.true (sym c.Joined-by.ensures ∙ c.if-joined_by.false)
+    search_turn c.args.join (ruling_at c.args.rects.now c.args.directions.now c.args.chosen.now) c.args.set.now c.args.a c.args.end c.requires.3 c.loop-k.invariant c.loop-k-test.true (sym c.joined_by.ensures ∙ c.if-joined_by.false)
 
 pub returns : goal.returns
 returns c =

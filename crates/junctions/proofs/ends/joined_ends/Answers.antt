@@ -12,37 +12,8 @@ use Rattle.meeting.specs.Segments.{ruling_at}
 use Rattle.meeting.specs.Meeting.{end_joined, joined_ends}
 use Rattle.junctions.proofs.Joining.{kept_step, kept_end, one_le}
 use Rattle.meeting.proofs.Rulings.{member_within}
+use Rattle.junctions.proofs.ends.joined_ends.Invariants.{begun, done, few, turn}
 use Rattle.junctions.proofs.ends.joined_ends.Goals as goal
-
-module _ (join : ℕ) (s : ℕ → Segment) (set : List ℕ) where
-  abbrev starts : ℕ → Bool
-  starts i = end_joined join s set (s i).start i
-
-  abbrev stops : ℕ → Bool
-  stops i = end_joined join s set (s i).end i
-
-  record Counted (joined k : ℕ) : Type 0 where
-    up_to : k ≤ length set
-    total : joined + (length (keep starts (drop k set)) + length (keep stops (drop k set))) ≡ joined_ends join s set
-    low : joined ≤ 2 * k
-
-  begun : Counted 0 0
-  unfolding joined_ends
-  begun = record { up_to = omega arith; total = omega arith; low = omega arith }
-
-  turn : {joined k r : ℕ} → Counted joined k → k < length set → r ≡ one (starts (get_or set k 0)) + one (stops (get_or set k 0)) → Counted (joined + r) (k + 1)
-  turn {joined} {k} {r} C h e =
-      record {
-        up_to = omega arith;
-        total = omega (arith, C.total, kept_step starts set k h, kept_step stops set k h);
-        low = omega (arith, C.low, one_le (starts (get_or set k 0)), one_le (stops (get_or set k 0)));
-      }
-
-  done : {joined k : ℕ} → Counted joined k → length set ≤ k → joined ≡ joined_ends join s set
-  done {joined} {k} C h = omega (arith, C.total, kept_end starts set k h, kept_end stops set k h)
-
-  few : {r : ℕ} (i : ℕ) → r ≡ one (starts i) + one (stops i) → r ≤ 2
-  few i e = omega (arith, one_le (starts i), one_le (stops i))
 
 pub loop-k-init : goal.loop-k-init
 loop-k-init c =
@@ -64,7 +35,7 @@ joined_of-joined-requires c =
 
 pub overflow_add-joined : goal.overflow_add-joined
 overflow_add-joined c =
-    omega (arith, c.loop-k.invariant.low, c.loop-k-test.true, c.requires.2.short, c.requires.1.few, few c.args.join (ruling_at c.args.rects.now c.args.directions.now c.args.chosen.now) c.args.set.now (get_or c.args.set.now c.loop-k.k 0) c.Joined-of.ensures)
+    omega (arith, c.loop-k.invariant.low, c.loop-k-test.true, c.requires.2.short, c.requires.1.few, few c.args.join (ruling_at c.args.rects.now c.args.directions.now c.args.chosen.now) c.args.set.now (get_or c.args.set.now c.loop-k.k 0) c.joined_of-joined.ensures)
 
 pub overflow_add-k : goal.overflow_add-k
 overflow_add-k c =
@@ -75,7 +46,7 @@ loop-k-smaller c = omega (arith, c.loop-k-test.true)
 
 pub loop-k-preserved : goal.loop-k-preserved
 loop-k-preserved c =
-    turn c.args.join (ruling_at c.args.rects.now c.args.directions.now c.args.chosen.now) c.args.set.now c.loop-k.invariant c.loop-k-test.true c.Joined-of.ensures
+    turn c.args.join (ruling_at c.args.rects.now c.args.directions.now c.args.chosen.now) c.args.set.now c.loop-k.invariant c.loop-k-test.true c.joined_of-joined.ensures
 
 pub returns : goal.returns
 returns c =

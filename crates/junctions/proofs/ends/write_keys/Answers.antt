@@ -10,15 +10,8 @@ use Rattle.meeting.specs.declared.segment.Segment.{Segment}
 use Rattle.meeting.specs.Segments.{ruling_at}
 use Rattle.junctions.specs.Steps.{centre_key}
 use Rattle.meeting.proofs.Rulings.{member_within}
+use Rattle.junctions.proofs.ends.write_keys.Invariants.{member_key, read}
 use Rattle.junctions.proofs.ends.write_keys.Goals as goal
-
-module _ (s : ℕ → Segment) (set : List ℕ) where
-  -- the key of the member at a place
-  abbrev member_key : ℕ → ℕ → Type 0
-  member_key k v = v ≡ centre_key (s (get_or set k 0))
-
-  read : {a : Segment} {v : ℕ} (k : ℕ) → a ≡ s (get_or set k 0) → v ≡ centre_key a → member_key k v
-  read k e f = f ∙ ap centre_key e
 
 pub loop-k-init : goal.loop-k-init
 loop-k-init c =

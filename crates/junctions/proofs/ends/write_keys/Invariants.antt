@@ -12,6 +12,14 @@ use Rattle.junctions.specs.Steps.{centre_key}
 use Rattle.meeting.proofs.Rulings.{member_within}
 use Rattle.junctions.proofs.ends.write_keys.Given as goal
 
+module _ (s : ℕ → Segment) (set : List ℕ) where
+  -- the key of the member at a place
+  abbrev pub member_key : ℕ → ℕ → Type 0
+  member_key k v = v ≡ centre_key (s (get_or set k 0))
+
+  pub read : {a : Segment} {v : ℕ} (k : ℕ) → a ≡ s (get_or set k 0) → v ≡ centre_key a → member_key k v
+  read k e f = f ∙ ap centre_key e
+
 abbrev pub invariant-loop-k : goal.invariant-loop-k
 invariant-loop-k l = Writing (member_key (ruling_at l.rects l.directions l.chosen) l.set) (length l.set) l.initial.keys l.keys l.k
 
