@@ -25,6 +25,7 @@ is_finite x h = go (finite x) h
   where
     go : (b : Bool) → T b → b ≡ true
     go true t = refl
+    go false t = elim t [ ]
 
 -- the constants
 zero_small : AtMost 1 zero

@@ -14,15 +14,15 @@ fold_row f d x =
     record { bbox = f.bbox; kind = 19; a = d; b = 0; c = 0; log_odds = f.log_odds; first = f.first; second = no_evidence; length = x }
 
 pub returns-in-Table : goal.returns-in-Table
-returns-in-Table c = ap (row_with c.args.f) (sym c.kind-1.given.1)
+returns-in-Table c = ap (row_with c.args.f) (sym c.in-Table.is)
 
 pub returns-in-FreeRules : goal.returns-in-FreeRules
-returns-in-FreeRules c = ap (row_with c.args.f) (sym c.kind-in-FreeRules-1.given.1)
+returns-in-FreeRules c = ap (row_with c.args.f) (sym c.in-FreeRules.is)
 
 pub returns-in-Grid : goal.returns-in-Grid
-returns-in-Grid c = ap (row_with c.args.f) (sym c.kind-in-Grid-1.given.1)
+returns-in-Grid c = ap (row_with c.args.f) (sym c.in-Grid.is)
 
 pub returns-in-Fold : goal.returns-in-Fold
 returns-in-Fold c =
     let f = c.args.f in
-    ap (λ (d : ℕ). fold_row f d c.kind-in-Fold-1.given.0.1.0) c.direction.ensures ∙ ap (row_with f) (sym c.kind-in-Fold-1.given.1)
+    ap (λ (d : ℕ). fold_row f d c.in-Fold.length) c.direction.ensures ∙ ap (row_with f) (sym c.in-Fold.is)

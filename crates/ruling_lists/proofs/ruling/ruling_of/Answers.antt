@@ -19,8 +19,7 @@ use Rattle.ruling_lists.specs.Rulings.{direction_of}
 use Rattle.pieces.specs.Steps.{Ordered}
 use Rattle.ruling_lists.specs.Steps.{Picture, RulingMade}
 use Rattle.ruling_lists.proofs.Rectangles.{places_known, set_inside, inside_ordered}
-use Rattle.ruling_lists.proofs.ruling.ruling_of.Statement.{statement}
-use Rattle.ruling_lists.proofs.ruling.ruling_of.Tie as tie
+use Rattle.ruling_lists.proofs.ruling.ruling_of.Goals as goal
 
 module _ {raster : List ℕ} {w h : ℕ} (pieces set : List ℕ) (P : Picture raster w h pieces) (some : 0 < length set) (known : (i : ℕ) → In set i → i < count pieces) where
   first : get_or set 0 0 < count pieces
@@ -43,45 +42,29 @@ made raster w h pieces set {r} {f} {t} {x} p q e d =
     let v = C.value in
     record { value = λ i. record { rect = p i; horizontal = g i; contrast = v i }; near = rw v at C.near }
 
-bounding-requires : tie.Need-bounding-requires
-bounding-requires c κs = (c.before.before.before.requires.1, places_known c.before.before.before.args.pieces.now c.before.before.before.args.set.now c.before.before.before.requires.2)
+pub bounding-rect-requires : goal.bounding-rect-requires
+bounding-rect-requires c = (c.requires.1, places_known c.args.pieces.now c.args.set.now c.requires.2)
 
-shared-slice-read-rect-at : tie.Need-shared-slice-read-rect-at
-shared-slice-read-rect-at c = c.before.before.before.before.before.requires.1
+pub bounds-set-0 : goal.bounds-set-0
+bounds-set-0 c = c.requires.1
 
-cast-rect-at : tie.Need-overflow-cast-rect-at
-cast-rect-at c = omega (arith, c.shared-slice-known4.given 0)
+pub overflow_cast-set : goal.overflow_cast-set
+overflow_cast-set c = omega (arith, c.shared_slice_known-4-1.given 0)
 
-rect-at-requires : tie.Need-rect-at-requires
-rect-at-requires c κs =
-    let start = c.before.before.before.before.before in
-    has_numbers (length start.args.pieces.now) (get_or start.args.set.now 0 0) (first start.args.pieces.now start.args.set.now start.requires.0 start.requires.1 start.requires.2)
+pub rect_at-first-requires : goal.rect_at-first-requires
+rect_at-first-requires c =
+    has_numbers (length c.args.pieces.now) (get_or c.args.set.now 0 0) (first c.args.pieces.now c.args.set.now c.requires.0 c.requires.1 c.requires.2)
 
-is-horizontal-requires : tie.Need-is-horizontal-requires
-is-horizontal-requires c κs =
-    let start = c.before.before.before.before.before.before in
-    let f = first_ordered start.args.pieces.now start.args.set.now start.requires.0 start.requires.1 start.requires.2 c.rect-at.ensures in
-    let r = around_ordered start.args.pieces.now start.args.set.now start.requires.0 start.requires.1 start.requires.2 c.before.before.bounding.ensures in
+pub is_horizontal-horizontal-requires : goal.is_horizontal-horizontal-requires
+is_horizontal-horizontal-requires c =
+    let f = first_ordered c.args.pieces.now c.args.set.now c.requires.0 c.requires.1 c.requires.2 c.rect_at-first.ensures in
+    let r = around_ordered c.args.pieces.now c.args.set.now c.requires.0 c.requires.1 c.requires.2 c.bounding-rect.ensures in
     record { wide = omega (arith, f.wide, r.wide); high = omega (arith, f.high, r.high) }
 
-contrast-requires : tie.Need-contrast-requires
-contrast-requires c κs =
-    let start = c.before.before.before.before.before.before.before in
-    on_picture start.args.pieces.now start.args.set.now start.requires.0 start.requires.1 start.requires.2 c.before.before.before.bounding.ensures
+pub contrast-contrast-requires : goal.contrast-contrast-requires
+contrast-contrast-requires c =
+    on_picture c.args.pieces.now c.args.set.now c.requires.0 c.requires.1 c.requires.2 c.bounding-rect.ensures
 
-returns : tie.Need-returns
+pub returns : goal.returns
 returns c =
-    let start = c.before.before.before.before.before.before.before.before in
-    made start.args.raster.now start.args.w start.args.h start.args.pieces.now start.args.set.now c.before.before.before.before.bounding.ensures c.before.before.rect-at.ensures c.before.is-horizontal.ensures c.contrast.ensures
-
-pub ruling-of-spec : {M : Type 1} → statement M
-ruling-of-spec =
-    tie.close
-    (tie.spec
-    bounding-requires
-    shared-slice-read-rect-at
-    cast-rect-at
-    rect-at-requires
-    is-horizontal-requires
-    contrast-requires
-    returns)
+    made c.args.raster.now c.args.w c.args.h c.args.pieces.now c.args.set.now c.bounding-rect.ensures c.rect_at-first.ensures c.is_horizontal-horizontal.ensures c.contrast-contrast.ensures

@@ -1,0 +1,69 @@
+-- `connect` meets its contract: the roots of all joined pairs are the closed sets, and these are listed over the order that was sorted.
+use mathlib.Core.Path.{◌≡◌, ap, ◌∙◌}
+use mathlib.Core.List.{List}
+use Prim.Native.Nat.{ℕ, ◌≤◌}
+use native.Mathlib.Nat.{le_of_eq}
+use native.Mathlib.Omega.{arith}
+use lib.ListN.{length, drop}
+use Rattle.lists.specs.Lists.{concat, written}
+use Rattle.rects.specs.Rects.{count}
+use Rattle.sets.specs.Closed.{Below}
+use Rattle.sets.specs.Steps.{Joins, Listing, Room, root, classes}
+use Rattle.sets.specs.Listing.{ends_from}
+use Rattle.sets.proofs.Listings.{joins_closed_sets}
+use Rattle.sets.proofs.Sizes.{classes_total}
+use Rattle.sorted.specs.Steps.{SortRoom}
+use Rattle.sorted.proofs.Arranged.{written_over}
+use Rattle.box_sets.specs.Boxes.{touch, Touch}
+use Rattle.box_sets.specs.Steps.{Connected}
+use Rattle.box_sets.proofs.connect.Goals as goal
+
+listed : (rects : List ℕ) (limit : ℕ) {q os m e q' m' e' : List ℕ} {r : ℕ} → Joins (count rects) (Below (count rects)) (Touch rects limit) q
+    → drop (count rects) os ≡ drop (count rects) m → Listing (count rects) q os e q' m' e' r → Connected rects limit m e m' e' r
+listed rects limit {q} {os} {m} {e} J kept L =
+    let n = count rects in
+    let same = joins_closed_sets (touch rects limit) J in
+    let all = classes_total n (root q) J.roots.fixed J.roots.stays in
+    record {
+      sets = L.count ∙ ap length same;
+      members = L.members ∙ written_over n (concat (classes n (root q))) m os all kept ∙ ap (λ (ss : List (List ℕ)). written (concat ss) m) same;
+      ends = L.ends ∙ ap (λ (ss : List (List ℕ)). written (ends_from 0 ss) e) same;
+      total = rw same at (le_of_eq all);
+    }
+
+room : {n : ℕ} {p : List ℕ} → n ≤ length p → n ≤ 16384 → Room n p
+room h k = record { room = h; small = omega arith }
+
+sort_room : {n : ℕ} {os ws ks : List ℕ} → n ≤ 16384 → n ≤ length os → n ≤ length ws → n ≤ length ks → SortRoom n os ws ks
+sort_room h o w k = record { small = omega arith; order = o; work = w; keys = k }
+
+still : {n a b : ℕ} → n ≤ a → b ≡ a → n ≤ b
+still h e = omega arith
+
+pub join_all-requires : goal.join_all-requires
+join_all-requires c =
+    let pre = c.requires in
+    (pre.0, pre.1, room pre.2 pre.1.few, sort_room pre.1.few pre.3 pre.5 pre.6)
+
+pub list-requires : goal.list-requires
+list-requires c =
+    let pre = c.requires in
+    (c.join_all.ensures.0.parents, still pre.3 c.join_all.auto.order, pre.4, still pre.5 c.join_all.auto.work)
+
+pub shape_of-parents : goal.shape_of-parents
+shape_of-parents c = c.list.auto.parents ∙ c.join_all.auto.parents
+
+pub shape_of-members : goal.shape_of-members
+shape_of-members c = c.list.auto.members ∙ c.join_all.auto.order
+
+pub shape_of-ends : goal.shape_of-ends
+shape_of-ends c = c.list.auto.ends
+
+pub shape_of-work : goal.shape_of-work
+shape_of-work c = c.list.auto.work ∙ c.join_all.auto.work
+
+pub shape_of-keys : goal.shape_of-keys
+shape_of-keys c = c.join_all.auto.keys
+
+pub returns : goal.returns
+returns c = listed c.args.rects.now c.args.limit c.join_all.ensures.0 c.join_all.ensures.1 c.list.ensures

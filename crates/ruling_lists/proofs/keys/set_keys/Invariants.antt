@@ -1,0 +1,35 @@
+-- `keys::set_keys` meets its contract: one key more a turn.
+use mathlib.Core.Path.{◌≡◌, refl, sym, ap, ◌∙◌}
+use mathlib.Core.List.{List, map}
+use Prim.Native.Nat.{ℕ, ◌+◌, ◌-◌, ◌≤◌, ◌<◌, zero-le}
+use native.Mathlib.Omega.{arith}
+use borrow.Author.Rules.{scaled_Fits}
+use lib.ListN.{length, set, length-set}
+use Rattle.lists.specs.Lists.{In, below, written}
+use Rattle.rects.specs.declared.Rect.{Rect}
+use Rattle.rects.specs.Rects.{count}
+use Rattle.rects.specs.Steps.{AllInside, Places}
+use Rattle.rects.specs.Around.{around}
+use Rattle.rects.proofs.Questions.{Inside}
+use Rattle.sets.specs.Listing.{members_of}
+use Rattle.ruling_lists.specs.Rulings.{ruling_key}
+use Rattle.ruling_lists.specs.Steps.{Parts}
+use Rattle.ruling_lists.proofs.Runs.{value_written}
+use Rattle.lists.proofs.Keep.{map_map}
+use Rattle.ruling_lists.proofs.Rectangles.{places_known, set_inside}
+use Rattle.ruling_lists.proofs.keys.set_keys.Given as goal
+
+-- the key of part k
+abbrev pub key : List ℕ → List ℕ → List ℕ → ℕ → ℕ → ℕ
+key pieces ms es n k = ruling_key (around pieces (members_of ms es n k))
+
+pub record Keys (pieces ms es : List ℕ) (n : ℕ) (ks₀ ks : List ℕ) (k : ℕ) : Type 0 where
+  pub up_to : k ≤ n
+  pub long : length ks ≡ length ks₀
+  pub done : ks ≡ written (map (key pieces ms es n) (below k)) ks₀
+
+abbrev pub invariant-loop-k : goal.invariant-loop-k
+invariant-loop-k l = Keys l.pieces l.members l.ends l.count l.initial.keys l.keys l.k
+
+abbrev pub decreases-loop-k : goal.decreases-loop-k
+decreases-loop-k l = l.count - l.k
