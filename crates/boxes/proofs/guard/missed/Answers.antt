@@ -1,5 +1,4 @@
 -- `guard::missed` meets its contract: question 14 is asked where none before it is missed.
-use borrow.Author.Rules.{rules}
 use mathlib.Core.Path.{◌≡◌, sym, ap, ◌∙◌}
 use mathlib.Core.Bool.{Bool, true, false, cond}
 use mathlib.Core.List.{List, [], ◌∷◌, ◌++◌}
@@ -9,8 +8,8 @@ use borrow.Author.Tests.{eq-eqb, ne_eqb}
 use Rattle.questions.specs.Questions.{Question, first_missed}
 use Rattle.questions.proofs.FirstMissed.{numbered, in_two_parts}
 use Rattle.boxes.specs.Call.{Given, has_room, given_questions}
-use Rattle.boxes.proofs.guard.missed.Statement.{statement}
-use Rattle.boxes.proofs.guard.missed.Tie as tie
+use Rattle.boxes.proofs.guard.missed.Goals.{Start}
+use Rattle.boxes.proofs.guard.missed.Goals as goal
 
 module _ (ps qs : List Question) (t : T (numbered ps)) where
   stops : {q : ℕ} → q ≡ first_missed ps → (q ≡ 0 → ⊥) → q ≡ first_missed (ps ++ qs)
@@ -26,7 +25,7 @@ room_no : {x f : Bool} → x ≡ f → x ≡ false → ◌≡◌ {A = ℕ} 14 (c
 room_no p t = sym (ap {B = ℕ} (λ (b : Bool). cond b 0 14) (sym p ∙ t))
 
 -- what was given, and what was lent
-abbrev given : tie.Start → Given
+abbrev given : Start → Given
 given s =
     record {
       w = s.args.w;
@@ -38,28 +37,16 @@ given s =
       glyphs = s.args.glyphs.now;
     }
 
-abbrev room : tie.Start → List Question
+abbrev room : Start → List Question
 room s = (14, has_room (given s) (record { rects = s.args.rects.now; marks = s.args.marks.now; coverages = s.args.coverages.now })) ∷ []
 
-missed-by-given-requires : tie.Need-missed-by-given-requires
-missed-by-given-requires c κs = search rules
+pub returns-then-number-ne0 : goal.returns-then-number-ne0
+returns-then-number-ne0 c = stops (given_questions (given (goal.at.returns-then-number-ne0 c).Start)) (room (goal.at.returns-then-number-ne0 c).Start) tt c.missed_by_given-number.ensures c.if-number-ne0.true
 
-returns : tie.Need-returns
-returns c = let s = c.before.before.before.before.before.before.before in stops (given_questions (given s)) (room s) tt c.before.missed-by-given.ensures c.if1.true
+pub returns-then-room_fits : goal.returns-then-room_fits
+returns-then-room_fits c =
+    room_yes c.room_fits.ensures c.if-room_fits.true ∙ goes_on (given_questions (given (goal.at.returns-then-room_fits c).Start)) (room (goal.at.returns-then-room_fits c).Start) tt c.missed_by_given-number.ensures c.if-number-ne0.false
 
-room-fits-requires : tie.Need-room-fits-requires
-room-fits-requires c κs = search rules
-
-returns-2 : tie.Need-returns-2
-returns-2 c =
-    let s = c.before.before.before.before.before.before.before.before.before in
-    room_yes c.before.room-fits.ensures c.if2.true ∙ goes_on (given_questions (given s)) (room s) tt c.before.before.before.missed-by-given.ensures c.before.before.if1.false
-
-returns-3 : tie.Need-returns-3
-returns-3 c =
-    let s = c.before.before.before.before.before.before.before.before.before in
-    room_no c.before.room-fits.ensures c.if2.false ∙ goes_on (given_questions (given s)) (room s) tt c.before.before.before.missed-by-given.ensures c.before.before.if1.false
-
-pub missed-spec : {M : Type 1} → statement M
-missed-spec =
-    tie.close (tie.spec missed-by-given-requires returns room-fits-requires returns-2 returns-3)
+pub returns-else-room_fits : goal.returns-else-room_fits
+returns-else-room_fits c =
+    room_no c.room_fits.ensures c.if-room_fits.false ∙ goes_on (given_questions (given (goal.at.returns-else-room_fits c).Start)) (room (goal.at.returns-else-room_fits c).Start) tt c.missed_by_given-number.ensures c.if-number-ne0.false

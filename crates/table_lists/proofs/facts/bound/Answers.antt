@@ -1,0 +1,47 @@
+-- `facts::bound` meets its contract: after t turns the rectangles of the first t tables are written.
+use mathlib.Core.Path.{refl}
+use native.Mathlib.Omega.{arith}
+use borrow.Author.Rules.{scaled_Fits}
+use lib.ListN.{length}
+use Rattle.sets.specs.Listing.{members_of}
+use Rattle.table_lists.proofs.Passes.{set_read}
+use Rattle.table_lists.proofs.facts.bound.Invariants.{done, turn}
+use Rattle.table_lists.proofs.facts.bound.Goals as goal
+
+pub loop-t-init : goal.loop-t-init
+loop-t-init c = record { up_to = omega arith; long = refl; content = refl }
+
+pub offset_bounds-numbers-t : goal.offset_bounds-numbers-t
+offset_bounds-numbers-t c =
+    scaled_Fits c.loop-t.t (length c.args.numbers.now) 4 (omega (arith, c.loop-t-test.true, c.requires.2.room)) c.well_formed.1.1.1.1.1.1.0.1
+
+pub bounds-numbers-t : goal.bounds-numbers-t
+bounds-numbers-t c = omega (arith, c.loop-t-test.true, c.requires.2.room)
+
+pub overflow_cast-numbers : goal.overflow_cast-numbers
+overflow_cast-numbers c = omega (arith, c.shared_slice_known-in-loop-t-1.given c.loop-t.t)
+
+pub around_set-requires : goal.around_set-requires
+around_set-requires c =
+    let r = set_read c.requires.1 (c.requires.2.low c.loop-t.t c.loop-t-test.true) c.members_of-set.ensures in
+    (c.requires.0, r.0, r.1)
+
+pub put_rect-requires : goal.put_rect-requires
+put_rect-requires c = omega (arith, c.loop-t-test.true, c.requires.3, c.loop-t.invariant.long)
+
+pub overflow_add-t : goal.overflow_add-t
+overflow_add-t c = omega (arith, c.loop-t-test.true, c.requires.3)
+
+pub loop-t-smaller : goal.loop-t-smaller
+loop-t-smaller c = omega (arith, c.loop-t-test.true)
+
+pub loop-t-preserved : goal.loop-t-preserved
+loop-t-preserved c =
+    turn c.args.rects.now c.args.chosen.now (members_of c.args.members.now c.args.ends.now c.args.count) c.args.numbers.now c.args.out.now c.loop-t.invariant c.loop-t-test.true c.requires.2.room c.requires.3 c.put_rect.auto.rects c.put_rect.ensures c.around_set.ensures c.members_of-set.ensures
+
+pub shape_of-out : goal.shape_of-out
+shape_of-out c = c.loop-t.invariant.long
+
+pub returns : goal.returns
+returns c =
+    done c.args.rects.now c.args.chosen.now (members_of c.args.members.now c.args.ends.now c.args.count) c.args.numbers.now c.args.out.now c.loop-t.invariant c.loop-t-test.false
