@@ -1,5 +1,5 @@
 -- What a core leaves, said of the lists as they stand in their bundles afterwards.
-use Rattle.core.specs.Prelude.{◌≡◌, ℕ, ◌*◌, ◌/◌, ◌≤◌, List, length, take}
+use Rattle.std.specs.Prelude.{◌≡◌, ℕ, ◌*◌, ◌/◌, ◌≤◌, List, length, take}
 use mathlib.Core.Path.{sym, subst, transport}
 use native.Mathlib.Omega.{arith}
 use lib.Ieee.{Float}

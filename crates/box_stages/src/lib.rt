@@ -1,7 +1,7 @@
 // The stages of boxes and grids over bundles of lent lists: each lends its lists to the core that does the work.
 #![tactic(auto)]
 
-ghost use Rattle.core.specs.Prelude.{◌*◌, ◌≤◌, length, take};
+ghost use Rattle.std.specs.Prelude.{◌*◌, ◌≤◌, length, take};
 ghost use Rattle.params.specs.Steps.{SettingsPassed};
 ghost use Rattle.params.specs.Limits.{align_limit};
 ghost use Rattle.glyph_tests.specs.Limits.{box_limits_of};
@@ -11,7 +11,7 @@ ghost use Rattle.grids.specs.Steps as Grids;
 ghost use Rattle.page.specs.Lent.{list_at};
 ghost use Rattle.page.specs.Steps.{Only, Kept};
 
-use grids::core::Counts;
+use grids::inner::Counts;
 use layout::sides::Sides;
 use params::settings::RulingsParams;
 
@@ -53,10 +53,10 @@ fn grids_of(
     box_keys: &mut [u64],
 ) -> Counts
     requires { SettingsPassed p xheight × (4 * n ≤ length boxes.now) × PassedBoxes (take (4 * n) boxes.now) × Grids.Roomy n
-        (record { members = members.now; ends = ends.old; reading = reading.old; numbers = numbers.old; parents = box_parents.old; work = box_order.old; keys = box_keys.old }) }
+        (record { members = members.old; ends = ends.old; reading = reading.old; numbers = numbers.old; parents = box_parents.old; work = box_order.old; keys = box_keys.old }) }
     ensures { Grids.Filled (take (4 * n) boxes.now) (align_limit p xheight) p.grid_min_boxes
         (record {
-          members = members.entry.now;
+          members = members.old;
           ends = ends.old;
           reading = reading.old;
           numbers = numbers.old;
@@ -65,7 +65,7 @@ fn grids_of(
           keys = box_keys.old;
         })
         (record {
-          members = members.exit.now;
+          members = members.new;
           ends = ends.new;
           reading = reading.new;
           numbers = numbers.new;
@@ -75,8 +75,8 @@ fn grids_of(
         })
         result.sets result.grids }
 {
-    let limit = grids::core::limit(p, xheight);
-    grids::core::find(
+    let limit = grids::inner::limit(p, xheight);
+    grids::inner::find(
         &boxes[..4 * n],
         limit,
         p.grid_min_boxes,
@@ -105,7 +105,7 @@ pub fn grids_in(
 ) -> Counts
     requires { SettingsPassed p xheight × (4 * n ≤ length (list_at 1 rects.old)) × PassedBoxes (take (4 * n) (list_at 1 rects.old)) × Grids.Roomy n
         (record {
-          members = list_at 2 members.now;
+          members = list_at 2 members.old;
           ends = list_at 2 ends.old;
           reading = list_at 1 chosen.old;
           numbers = list_at 1 numbers.old;
@@ -115,7 +115,7 @@ pub fn grids_in(
         }) }
     ensures { Grids.Filled (take (4 * n) (list_at 1 rects.old)) (align_limit p xheight) p.grid_min_boxes
         (record {
-          members = list_at 2 members.entry.now;
+          members = list_at 2 members.old;
           ends = list_at 2 ends.old;
           reading = list_at 1 chosen.old;
           numbers = list_at 1 numbers.old;
@@ -124,7 +124,7 @@ pub fn grids_in(
           keys = list_at 0 box_keys.old;
         })
         (record {
-          members = list_at 2 members.exit.now;
+          members = list_at 2 members.new;
           ends = list_at 2 ends.new;
           reading = list_at 1 chosen.new;
           numbers = list_at 1 numbers.new;
@@ -134,7 +134,7 @@ pub fn grids_in(
         })
         result.sets result.grids
         × Kept rects.old rects.new
-        × Only 2 members.entry.now members.exit.now × Only 2 ends.old ends.new × Only 1 chosen.old
+        × Only 2 members.old members.new × Only 2 ends.old ends.new × Only 1 chosen.old
         chosen.new
         × Only 1 numbers.old numbers.new × Only 1 parents.old parents.new × Only 1 order.old
         order.new

@@ -78,7 +78,7 @@ pub fn missed(
       ink = ink.now;
       glyphs = glyphs.now;
     })
-        (record { rects = rects.entry.now; marks = marks.now; coverages = coverages.now })) }
+        (record { rects = rects.now; marks = marks.now; coverages = coverages.now })) }
 {
     let number = missed_by_given(w, h, dpi, xheight, ink, glyphs, p);
     if number != 0 {

@@ -37,8 +37,8 @@ pub fn boxes(
       ink = ink.now;
       glyphs = glyphs.now;
     })
-        (record { rects = rects.entry.now; marks = marks.old; coverages = coverages.old })
-        (record { rects = rects.exit.now; marks = marks.new; coverages = coverages.new }) result }
+        (record { rects = rects.old; marks = marks.old; coverages = coverages.old })
+        (record { rects = rects.new; marks = marks.new; coverages = coverages.new }) result }
 {
     let number = guard::missed(w, h, dpi, xheight, ink, glyphs, p, rects, marks, coverages);
     if number != 0 {

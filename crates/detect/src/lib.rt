@@ -59,8 +59,8 @@ pub fn detect(
     })
         (record {
           rules = record {
-            levelled = list_at 0 levelled.entry.now;
-            rects = list_at 0 rects.entry.now;
+            levelled = list_at 0 levelled.old;
+            rects = list_at 0 rects.old;
             directions = list_at 0 tags.old;
             contrasts = list_at 0 values.old;
             printed = list_at 0 chosen.old;
@@ -83,7 +83,7 @@ pub fn detect(
             keys = list_at 0 keys.old;
           };
           marks = record {
-            boxes = list_at 1 rects.entry.now;
+            boxes = list_at 1 rects.old;
             marks = list_at 1 tags.old;
             coverages = list_at 2 values.old;
             reading = list_at 1 chosen.old;
@@ -98,8 +98,8 @@ pub fn detect(
         })
         (record {
           rules = record {
-            levelled = list_at 0 levelled.exit.now;
-            rects = list_at 0 rects.exit.now;
+            levelled = list_at 0 levelled.new;
+            rects = list_at 0 rects.new;
             directions = list_at 0 tags.new;
             contrasts = list_at 0 values.new;
             printed = list_at 0 chosen.new;
@@ -122,7 +122,7 @@ pub fn detect(
             keys = list_at 0 keys.new;
           };
           marks = record {
-            boxes = list_at 1 rects.exit.now;
+            boxes = list_at 1 rects.new;
             marks = list_at 1 tags.new;
             coverages = list_at 2 values.new;
             reading = list_at 1 chosen.new;

@@ -52,10 +52,10 @@ pub fn put(
     facts: &mut [&mut [u32]; 4],
     scores: &mut [&mut [f64]; 8],
 )
-    requires { Roomy (i + 1) (record { rects = rects.now; facts = map (λ x. x.now) facts.old; scores = map (λ x. x.now) scores.old }) }
+    requires { Roomy (i + 1) (record { rects = rects.old; facts = map (λ x. x.now) facts.old; scores = map (λ x. x.now) scores.old }) }
     ensures { Stored (row_of f ∷ []) (i ∷ [])
-        (record { rects = rects.entry.now; facts = map (λ x. x.now) facts.old; scores = map (λ x. x.now) scores.old })
-        (record { rects = rects.exit.now; facts = map (λ x. x.now) facts.new; scores = map (λ x. x.now) scores.new }) }
+        (record { rects = rects.old; facts = map (λ x. x.now) facts.old; scores = map (λ x. x.now) scores.old })
+        (record { rects = rects.new; facts = map (λ x. x.now) facts.new; scores = map (λ x. x.now) scores.new }) }
 {
     let row = evidence::finding::row_of(f);
     let on_page = row.bbox;
@@ -74,10 +74,10 @@ pub fn put_ranked(
     scores: &mut [&mut [f64]; 8],
 ) -> bool
     requires { (k < length ranks.now) × Roomy (get_or ranks.now k 0 + 1)
-        (record { rects = rects.now; facts = map (λ x. x.now) facts.old; scores = map (λ x. x.now) scores.old }) }
+        (record { rects = rects.old; facts = map (λ x. x.now) facts.old; scores = map (λ x. x.now) scores.old }) }
     ensures { WroteOne f (get_or ranks.now k 0)
-        (record { rects = rects.entry.now; facts = map (λ x. x.now) facts.old; scores = map (λ x. x.now) scores.old })
-        (record { rects = rects.exit.now; facts = map (λ x. x.now) facts.new; scores = map (λ x. x.now) scores.new }) result }
+        (record { rects = rects.old; facts = map (λ x. x.now) facts.old; scores = map (λ x. x.now) scores.old })
+        (record { rects = rects.new; facts = map (λ x. x.now) facts.new; scores = map (λ x. x.now) scores.new }) result }
 {
     put(f, ranks[k] as usize, rects, facts, scores);
     evidence::finding::is_finite(f)

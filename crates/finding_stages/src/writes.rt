@@ -37,13 +37,13 @@ fn tables_written_of(
         (record { rects = page.old; facts = map (λ x. x.now) facts.old; scores = map (λ x. x.now) scores.old }) }
     ensures { Wrote (table_at (record { sides = sides; shear = shear.now; shear_x = shear_x.now; settings = p; caps = f })
         (record {
-          bounds = take (4 * tables) bounds.entry.now;
+          bounds = take (4 * tables) bounds.now;
           rows = take tables rows.now;
           columns = take tables columns.now;
           rulings = take tables rulings.now;
           shares = take tables shares.now;
         }))
-        (count (take (4 * tables) bounds.entry.now)) ranks.now 0
+        (count (take (4 * tables) bounds.now)) ranks.now 0
         (record { rects = page.old; facts = map (λ x. x.now) facts.old; scores = map (λ x. x.now) scores.old })
         (record { rects = page.new; facts = map (λ x. x.now) facts.new; scores = map (λ x. x.now) scores.new }) result }
 {
@@ -93,16 +93,16 @@ pub fn tables_written_in(
         (record { rects = list_at 0 page.old; facts = map (λ x. x.now) facts.old; scores = map (λ x. x.now) scores.old }) }
     ensures { Wrote (table_at (record { sides = sides; shear = shear.now; shear_x = shear_x.now; settings = p; caps = f })
         (record {
-          bounds = take (4 * tables) (list_at 0 bounds.entry.now);
+          bounds = take (4 * tables) (list_at 0 bounds.old);
           rows = take tables (list_at 0 rows.old);
           columns = take tables (list_at 0 columns.old);
           rulings = take tables (list_at 0 rulings.old);
           shares = take tables (list_at 1 values.old);
         }))
-        (count (take (4 * tables) (list_at 0 bounds.entry.now))) (list_at 0 listed_ends.old) 0
+        (count (take (4 * tables) (list_at 0 bounds.old))) (list_at 0 listed_ends.old) 0
         (record { rects = list_at 0 page.old; facts = map (λ x. x.now) facts.old; scores = map (λ x. x.now) scores.old })
         (record { rects = list_at 0 page.new; facts = map (λ x. x.now) facts.new; scores = map (λ x. x.now) scores.new }) result
-        × Kept bounds.entry.now bounds.exit.now × Kept rows.old rows.new × Kept columns.old columns.new
+        × Kept bounds.old bounds.new × Kept rows.old rows.new × Kept columns.old columns.new
         × Kept rulings.old rulings.new × Kept values.old values.new
         × Kept listed_ends.old listed_ends.new × Only 0 page.old page.new }
 {
@@ -143,7 +143,7 @@ fn free_written_of(
         × RanksGiven ranks.now at (free_count_of p (take free_count places.now))
         (record { rects = page.old; facts = map (λ x. x.now) facts.old; scores = map (λ x. x.now) scores.old }) }
     ensures { Wrote (λ k. free_of (record { sides = sides; shear = shear.now; shear_x = shear_x.now; settings = p; caps = f })
-        (record { rects = take (4 * n) rects.entry.now; directions = take n directions.now; contrasts = take n contrasts.now })
+        (record { rects = take (4 * n) rects.now; directions = take n directions.now; contrasts = take n contrasts.now })
         (take free_count places.now))
         (free_count_of p (take free_count places.now)) ranks.now at
         (record { rects = page.old; facts = map (λ x. x.now) facts.old; scores = map (λ x. x.now) scores.old })
@@ -186,22 +186,22 @@ pub fn free_written_in(
     facts: &mut [&mut [u32]; 4],
     scores: &mut [&mut [f64]; 8],
 ) -> bool
-    requires { RulesLong n free_count (list_at 0 rects.now) (list_at 0 tags.old) (list_at 0 values.old) (list_at 0 parents.old)
+    requires { RulesLong n free_count (list_at 0 rects.old) (list_at 0 tags.old) (list_at 0 values.old) (list_at 0 parents.old)
         × Mapping sides shear.now shear_x.now × (1 ≤ p.min_free_rules)
-        × AllGiven sides.w sides.h (take (4 * n) (list_at 0 rects.now)) (take n (list_at 0 tags.old)) (take n (list_at 0 values.old))
+        × AllGiven sides.w sides.h (take (4 * n) (list_at 0 rects.old)) (take n (list_at 0 tags.old)) (take n (list_at 0 values.old))
         (take free_count (list_at 0 parents.old))
         × RanksGiven (list_at 0 listed_ends.old) at (free_count_of p (take free_count (list_at 0 parents.old)))
         (record { rects = list_at 0 page.old; facts = map (λ x. x.now) facts.old; scores = map (λ x. x.now) scores.old }) }
     ensures { Wrote (λ k. free_of (record { sides = sides; shear = shear.now; shear_x = shear_x.now; settings = p; caps = f })
         (record {
-          rects = take (4 * n) (list_at 0 rects.entry.now);
+          rects = take (4 * n) (list_at 0 rects.old);
           directions = take n (list_at 0 tags.old);
           contrasts = take n (list_at 0 values.old);
         }) (take free_count (list_at 0 parents.old)))
         (free_count_of p (take free_count (list_at 0 parents.old))) (list_at 0 listed_ends.old) at
         (record { rects = list_at 0 page.old; facts = map (λ x. x.now) facts.old; scores = map (λ x. x.now) scores.old })
         (record { rects = list_at 0 page.new; facts = map (λ x. x.now) facts.new; scores = map (λ x. x.now) scores.new }) result
-        × Kept rects.entry.now rects.exit.now × Kept tags.old tags.new × Kept values.old values.new
+        × Kept rects.old rects.new × Kept tags.old tags.new × Kept values.old values.new
         × Kept parents.old parents.new × Kept listed_ends.old listed_ends.new
         × Only 0 page.old page.new }
 {
@@ -241,7 +241,7 @@ fn folds_written_of(
         × RanksGiven ranks.now at (length (take fold_count folds.now))
         (record { rects = page.old; facts = map (λ x. x.now) facts.old; scores = map (λ x. x.now) scores.old }) }
     ensures { Wrote (λ k. fold_at (record { sides = sides; shear = shear.now; shear_x = shear_x.now; settings = p; caps = f }) dpi
-        (record { rects = take (4 * n) rects.entry.now; directions = take n directions.now; contrasts = take n contrasts.now })
+        (record { rects = take (4 * n) rects.now; directions = take n directions.now; contrasts = take n contrasts.now })
         (get_or (take fold_count folds.now) k 0))
         (length (take fold_count folds.now)) ranks.now at
         (record { rects = page.old; facts = map (λ x. x.now) facts.old; scores = map (λ x. x.now) scores.old })
@@ -286,22 +286,22 @@ pub fn folds_written_in(
     facts: &mut [&mut [u32]; 4],
     scores: &mut [&mut [f64]; 8],
 ) -> bool
-    requires { RulesLong n fold_count (list_at 0 rects.now) (list_at 0 tags.old) (list_at 0 values.old) (list_at 0 order.old)
+    requires { RulesLong n fold_count (list_at 0 rects.old) (list_at 0 tags.old) (list_at 0 values.old) (list_at 0 order.old)
         × Mapping sides shear.now shear_x.now
-        × AllGiven sides.w sides.h (take (4 * n) (list_at 0 rects.now)) (take n (list_at 0 tags.old)) (take n (list_at 0 values.old))
+        × AllGiven sides.w sides.h (take (4 * n) (list_at 0 rects.old)) (take n (list_at 0 tags.old)) (take n (list_at 0 values.old))
         (take fold_count (list_at 0 order.old))
         × RanksGiven (list_at 0 listed_ends.old) at (length (take fold_count (list_at 0 order.old)))
         (record { rects = list_at 0 page.old; facts = map (λ x. x.now) facts.old; scores = map (λ x. x.now) scores.old }) }
     ensures { Wrote (λ k. fold_at (record { sides = sides; shear = shear.now; shear_x = shear_x.now; settings = p; caps = f }) dpi
         (record {
-          rects = take (4 * n) (list_at 0 rects.entry.now);
+          rects = take (4 * n) (list_at 0 rects.old);
           directions = take n (list_at 0 tags.old);
           contrasts = take n (list_at 0 values.old);
         }) (get_or (take fold_count (list_at 0 order.old)) k 0))
         (length (take fold_count (list_at 0 order.old))) (list_at 0 listed_ends.old) at
         (record { rects = list_at 0 page.old; facts = map (λ x. x.now) facts.old; scores = map (λ x. x.now) scores.old })
         (record { rects = list_at 0 page.new; facts = map (λ x. x.now) facts.new; scores = map (λ x. x.now) scores.new }) result
-        × Kept rects.entry.now rects.exit.now × Kept tags.old tags.new × Kept values.old values.new
+        × Kept rects.old rects.new × Kept tags.old tags.new × Kept values.old values.new
         × Kept order.old order.new × Kept listed_ends.old listed_ends.new
         × Only 0 page.old page.new }
 {
@@ -343,7 +343,7 @@ fn grids_written_of(
         × RanksGiven ranks.now 0 (length (take grids numbers.now))
         (record { rects = page.old; facts = map (λ x. x.now) facts.old; scores = map (λ x. x.now) scores.old }) }
     ensures { Wrote (λ k. grid_of (record { sides = sides; shear = shear.now; shear_x = shear_x.now; settings = p; caps = f })
-        (take (4 * boxes) rects.entry.now) (take boxes marks.now) (take boxes coverages.now)
+        (take (4 * boxes) rects.now) (take boxes marks.now) (take boxes coverages.now)
         (members_of members.now ends.now box_sets (get_or (take grids numbers.now) k 0)))
         (length (take grids numbers.now)) ranks.now 0
         (record { rects = page.old; facts = map (λ x. x.now) facts.old; scores = map (λ x. x.now) scores.old })
@@ -391,19 +391,19 @@ pub fn grids_written_in(
     facts: &mut [&mut [u32]; 4],
     scores: &mut [&mut [f64]; 8],
 ) -> bool
-    requires { BoxesLong boxes grids (list_at 1 rects.now) (list_at 1 tags.old) (list_at 2 values.old) (list_at 1 numbers.old)
+    requires { BoxesLong boxes grids (list_at 1 rects.old) (list_at 1 tags.old) (list_at 2 values.old) (list_at 1 numbers.old)
         × Mapping sides shear.now shear_x.now
-        × GridsGiven sides.w sides.h (take (4 * boxes) (list_at 1 rects.now)) (take boxes (list_at 1 tags.old)) (take boxes (list_at 2 values.old))
+        × GridsGiven sides.w sides.h (take (4 * boxes) (list_at 1 rects.old)) (take boxes (list_at 1 tags.old)) (take boxes (list_at 2 values.old))
         (members_of (list_at 2 members.old) (list_at 2 ends.old) box_sets) (take grids (list_at 1 numbers.old))
         × RanksGiven (list_at 1 order.old) 0 (length (take grids (list_at 1 numbers.old)))
         (record { rects = list_at 0 page.old; facts = map (λ x. x.now) facts.old; scores = map (λ x. x.now) scores.old }) }
     ensures { Wrote (λ k. grid_of (record { sides = sides; shear = shear.now; shear_x = shear_x.now; settings = p; caps = f })
-        (take (4 * boxes) (list_at 1 rects.entry.now)) (take boxes (list_at 1 tags.old)) (take boxes (list_at 2 values.old))
+        (take (4 * boxes) (list_at 1 rects.old)) (take boxes (list_at 1 tags.old)) (take boxes (list_at 2 values.old))
         (members_of (list_at 2 members.old) (list_at 2 ends.old) box_sets (get_or (take grids (list_at 1 numbers.old)) k 0)))
         (length (take grids (list_at 1 numbers.old))) (list_at 1 order.old) 0
         (record { rects = list_at 0 page.old; facts = map (λ x. x.now) facts.old; scores = map (λ x. x.now) scores.old })
         (record { rects = list_at 0 page.new; facts = map (λ x. x.now) facts.new; scores = map (λ x. x.now) scores.new }) result
-        × Kept rects.entry.now rects.exit.now × Kept tags.old tags.new × Kept values.old values.new
+        × Kept rects.old rects.new × Kept tags.old tags.new × Kept values.old values.new
         × Kept members.old members.new × Kept ends.old ends.new × Kept numbers.old numbers.new
         × Kept order.old order.new × Only 0 page.old page.new }
 {

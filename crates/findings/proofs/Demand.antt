@@ -1,7 +1,7 @@
 -- Demand 3's last sentence for a page: in the list in which findings are made each kind has its stretch, so each is paired with what it is made from;
 -- page coordinates are below 8,192, so the key's order is document 01's.
 use mathlib.Core.Path.{◌≡◌, refl, sym, ap, subst, ◌∙◌}
-use mathlib.Core.Logic.{◌⊎◌, ⊎_elim}
+use mathlib.Core.Logic.{⊎_elim}
 use mathlib.Core.List.{List, [], ◌++◌, map, append_assoc, append-nil}
 use Prim.Native.Nat.{ℕ, ◌+◌, ◌<◌}
 use native.Mathlib.Omega.{arith}

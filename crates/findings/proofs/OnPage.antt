@@ -1,5 +1,5 @@
 -- A picture has at most 8,192 columns and rows. A page rectangle is clamped into the page, so its coordinates are below 8,192.
-use Prim.Native.Nat.{ℕ, ◌-◌, ◌≤◌, ◌<◌}
+use Prim.Native.Nat.{ℕ, ◌≤◌, ◌<◌}
 use native.Mathlib.Omega.{arith}
 use mathlib.Core.List.{List}
 use lib.IntN.{ℤ, pos, negsuc}

@@ -1,5 +1,5 @@
 -- What the functions of `findings` and of the four kinds ask and leave; none of it is needed to read what a page's findings are.
-use Rattle.std.specs.Prelude.{◌≡◌, Bool, List, ◌++◌, map, ℕ, ◌+◌, ◌-◌, ◌*◌, ◌<◌, ◌^◌, ◌≤◌, ℤ, length, get_or, Float}
+use Rattle.std.specs.Prelude.{◌≡◌, Bool, List, ◌++◌, map, ℕ, ◌+◌, ◌*◌, ◌<◌, ◌^◌, ◌≤◌, ℤ, length, get_or, Float}
 use Rattle.lists.specs.Lists.{below, written}
 use Rattle.rects.specs.Rects.{rect_at, count}
 use Rattle.rects.specs.Around.{around}

@@ -88,7 +88,7 @@ pub fn finding(
     requires { Mapping sides shear.now shear_x.now × (4 * place + 4 ≤ length rects.now) × Inside sides.w sides.h (rect_at rects.now place)
         × (place < length directions.now) × (place < length contrasts.now) }
     ensures { result ≡ fold_at (record { sides = sides; shear = shear.now; shear_x = shear_x.now; settings = p; caps = f }) dpi
-        (record { rects = rects.entry.now; directions = directions.now; contrasts = contrasts.now }) place }
+        (record { rects = rects.now; directions = directions.now; contrasts = contrasts.now }) place }
 {
     let bbox = page::on_page(sides, shear, shear_x, rects::rect_at(rects, place));
     let length = inches(dpi, rects, directions, place);
@@ -123,7 +123,7 @@ pub fn write(
     requires mapping { Mapping sides shear.now shear_x.now × AllGiven sides.w sides.h rects.now directions.now contrasts.now folds.now }
     requires ranks_given { RanksGiven ranks.now at (length folds.now) (record { rects = page.old; facts = map (λ x. x.now) facts.old; scores = map (λ x. x.now) scores.old }) }
     ensures { Wrote (λ k. fold_at (record { sides = sides; shear = shear.now; shear_x = shear_x.now; settings = p; caps = f }) dpi
-        (record { rects = rects.entry.now; directions = directions.now; contrasts = contrasts.now }) (get_or folds.now k 0))
+        (record { rects = rects.now; directions = directions.now; contrasts = contrasts.now }) (get_or folds.now k 0))
         (length folds.now) ranks.now at
         (record { rects = page.old; facts = map (λ x. x.now) facts.old; scores = map (λ x. x.now) scores.old })
         (record { rects = page.new; facts = map (λ x. x.now) facts.new; scores = map (λ x. x.now) scores.new }) result }

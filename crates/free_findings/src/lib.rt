@@ -69,7 +69,7 @@ pub fn finding(
     requires { Mapping sides shear.now shear_x.now × (0 < length places.now) × AllGiven sides.w sides.h rects.now directions.now
         contrasts.now places.now }
     ensures { result ≡ free_of (record { sides = sides; shear = shear.now; shear_x = shear_x.now; settings = p; caps = f })
-        (record { rects = rects.entry.now; directions = directions.now; contrasts = contrasts.now }) places.now }
+        (record { rects = rects.now; directions = directions.now; contrasts = contrasts.now }) places.now }
 {
     let bbox = page::on_page(sides, shear, shear_x, rects::bounding(rects, places));
     let count = places.len();
@@ -112,7 +112,7 @@ pub fn write(
     requires ranks_given { RanksGiven ranks.now at (free_count_of p places.now)
         (record { rects = page.old; facts = map (λ x. x.now) facts.old; scores = map (λ x. x.now) scores.old }) }
     ensures { Wrote (λ k. free_of (record { sides = sides; shear = shear.now; shear_x = shear_x.now; settings = p; caps = f })
-        (record { rects = rects.entry.now; directions = directions.now; contrasts = contrasts.now }) places.now)
+        (record { rects = rects.now; directions = directions.now; contrasts = contrasts.now }) places.now)
         (free_count_of p places.now) ranks.now at
         (record { rects = page.old; facts = map (λ x. x.now) facts.old; scores = map (λ x. x.now) scores.old })
         (record { rects = page.new; facts = map (λ x. x.now) facts.new; scores = map (λ x. x.now) scores.new }) result }

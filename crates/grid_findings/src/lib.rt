@@ -89,7 +89,7 @@ pub fn write(
         (members_of members.now ends.now count) numbers.now }
     requires ranks_given { RanksGiven ranks.now at (length numbers.now) (record { rects = page.old; facts = map (λ x. x.now) facts.old; scores = map (λ x. x.now) scores.old }) }
     ensures { Wrote (λ k. grid_of (record { sides = sides; shear = shear.now; shear_x = shear_x.now; settings = p; caps = f })
-        rects.entry.now marks.now coverages.now
+        rects.now marks.now coverages.now
         (members_of members.now ends.now count (get_or numbers.now k 0)))
         (length numbers.now) ranks.now at
         (record { rects = page.old; facts = map (λ x. x.now) facts.old; scores = map (λ x. x.now) scores.old })

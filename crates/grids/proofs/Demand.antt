@@ -1,5 +1,5 @@
 -- Demand 3 for boxes: what `closed_sets` computes is listed, its grids are those that reach the minimum, and each set is read in order.
-use Rattle.core.specs.Prelude.{ℕ, List, [], get_or}
+use Rattle.std.specs.Prelude.{ℕ, List, [], get_or}
 use Rattle.rects.specs.Rects.{count}
 use Rattle.rects.proofs.Questions.{all_inside_says}
 use Rattle.sets.proofs.Grown.{closed_sets_listed}

@@ -1,5 +1,5 @@
 -- What `box_grids` is given and lent, the questions that it puts, and what it promises.
-use Rattle.core.specs.Prelude.{◌≡◌, ℕ, ◌<◌, Bool, true, cond, ◌&&◌, List, [], ◌∷◌, ◌++◌, map, length, get_or, ◌==◌, ◌≢◌, nat_le, slice_index_or}
+use Rattle.std.specs.Prelude.{◌≡◌, ℕ, ◌<◌, Bool, true, cond, ◌&&◌, List, [], ◌∷◌, ◌++◌, map, length, get_or, ◌==◌, ◌≢◌, nat_le, slice_index_or}
 use Rattle.std.specs.Prelude.{Float}
 use Rattle.lists.specs.Lists.{concat, written}
 use Rattle.sets.specs.Closed.{Below, Listed, ListedWhere}

@@ -1,5 +1,5 @@
 -- Document 01's grids: the closed sets of boxes that reach the grid minimum.
-use Rattle.core.specs.Prelude.{ℕ, Bool, List, [], map, length, nat_le, slice_index_or}
+use Rattle.std.specs.Prelude.{ℕ, Bool, List, [], map, length, nat_le, slice_index_or}
 use Rattle.lists.specs.Lists.{below, keep, concat}
 use Rattle.reading_order.specs.Reading.{reading_order}
 

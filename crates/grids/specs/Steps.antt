@@ -1,5 +1,5 @@
 -- What the functions under `box_grids` say to each other; not needed to read the call's contract.
-use Rattle.core.specs.Prelude.{◌≡◌, ℕ, ◌≤◌, List, map, length}
+use Rattle.std.specs.Prelude.{◌≡◌, ℕ, ◌≤◌, List, map, length}
 use Rattle.lists.specs.Lists.{concat, written}
 use Rattle.sets.specs.Listing.{ends_from, ReadAs}
 use Rattle.box_sets.specs.Boxes.{box_sets}

@@ -1,5 +1,5 @@
 // The questions that `box_grids` puts.
-ghost use Rattle.core.specs.Prelude.{◌≡◌, ◌&&◌, [], ◌∷◌, ◌++◌, nat_le};
+ghost use Rattle.std.specs.Prelude.{◌≡◌, ◌&&◌, [], ◌∷◌, ◌++◌, nat_le};
 ghost use Rattle.questions.specs.Questions.{first_missed};
 ghost use Rattle.grids.specs.Call.{given_questions};
 

@@ -1,8 +1,8 @@
 // Grids: connected sets of boxes that stand in rows or columns, with enough boxes; and the reading order of each set.
 #![tactic(auto)]
 
-pub mod core;
 mod guard;
+pub mod inner;
 mod minimum;
 
 ghost use Rattle.grids.specs.Call.{Grids};
@@ -33,7 +33,7 @@ pub fn box_grids(
 ) -> Answer
     ensures { Grids (record { xheight = xheight; settings = p; rects = rects.now })
         (record {
-          members = members.entry.now;
+          members = members.old;
           ends = ends.old;
           reading = reading.old;
           numbers = numbers.old;
@@ -42,7 +42,7 @@ pub fn box_grids(
           keys = keys.old;
         })
         (record {
-          members = members.exit.now;
+          members = members.new;
           ends = ends.new;
           reading = reading.new;
           numbers = numbers.new;
@@ -69,8 +69,8 @@ pub fn box_grids(
             grids: 0,
         };
     }
-    let limit = core::limit(p, xheight);
-    let found = core::find(
+    let limit = inner::limit(p, xheight);
+    let found = inner::find(
         rects,
         limit,
         p.grid_min_boxes,

@@ -1,5 +1,5 @@
 // Which sets reach the grid minimum.
-ghost use Rattle.core.specs.Prelude.{◌^◌, ◌<◌, ◌≤◌, length};
+ghost use Rattle.std.specs.Prelude.{◌^◌, ◌<◌, ◌≤◌, length};
 ghost use Rattle.sets.specs.Listing.{members_of};
 ghost use Rattle.grids.specs.Steps.{Chose};
 

@@ -16,7 +16,7 @@ pub extern "C" fn lanegravel_box_grids(
 ) -> grids::Answer
     ensures { Grids (record { xheight = xheight; settings = p; rects = rects.now })
         (record {
-          members = members.entry.now;
+          members = members.old;
           ends = ends.old;
           reading = reading.old;
           numbers = numbers.old;
@@ -25,7 +25,7 @@ pub extern "C" fn lanegravel_box_grids(
           keys = keys.old;
         })
         (record {
-          members = members.exit.now;
+          members = members.new;
           ends = ends.new;
           reading = reading.new;
           numbers = numbers.new;

@@ -23,8 +23,8 @@ pub extern "C" fn lanegravel_boxes(
       ink = ink.now;
       glyphs = glyphs.now;
     })
-        (record { rects = rects.entry.now; marks = marks.old; coverages = coverages.old })
-        (record { rects = rects.exit.now; marks = marks.new; coverages = coverages.new }) result }
+        (record { rects = rects.old; marks = marks.old; coverages = coverages.old })
+        (record { rects = rects.new; marks = marks.new; coverages = coverages.new }) result }
 {
     boxes::boxes(w, h, dpi, xheight, ink, glyphs, p, rects, marks, coverages)
 }

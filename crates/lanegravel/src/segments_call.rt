@@ -21,7 +21,7 @@ pub extern "C" fn lanegravel_segments(
     keys: &mut [u64],
 ) -> segments::segments::Answer
     ensures { Segments (record {
-      raster = raster.entry.now;
+      raster = raster.now;
       w = w;
       h = h;
       xheight = xheight;
@@ -29,7 +29,7 @@ pub extern "C" fn lanegravel_segments(
       pieces = pieces.now;
     })
         (record {
-          rects = rects.entry.now;
+          rects = rects.old;
           directions = directions.old;
           contrasts = contrasts.old;
           piece_members = members.old;
@@ -41,7 +41,7 @@ pub extern "C" fn lanegravel_segments(
           keys = keys.old;
         })
         (record {
-          rects = rects.exit.now;
+          rects = rects.new;
           directions = directions.new;
           contrasts = contrasts.new;
           piece_members = members.new;

@@ -4,7 +4,7 @@ use Rattle.std.specs.Float.Ieee.Positive.{num, den}
 use Rattle.std.specs.Float.Ieee.Scale.{finite}
 use Rattle.math.specs.Select.{negative}
 
--- A finite x is (aboveZero x - belowZero x) / den x.
+-- A finite x is (above_zero x - below_zero x) / den x.
 abbrev pub above_zero : Float → ℕ
 above_zero x = cond (negative x) 0 (num x)
 

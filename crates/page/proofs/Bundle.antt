@@ -3,7 +3,7 @@ use mathlib.Core.Path.{◌≡◌, refl, sym, ap, ◌∙◌}
 use mathlib.Core.List.{List, [], ◌∷◌}
 use Prim.Native.Nat.{ℕ, zero, suc, ◌≤◌}
 use native.Mathlib.Omega.{arith}
-use denote.Ref.{Bor}
+use denote.Ref.{MutBor}
 use lib.ListN.{length, set, take}
 use lib.Seq.{get_or-set_other, length-take-le}
 use Rattle.page.specs.Lent.{list_at}
@@ -15,20 +15,20 @@ empty (x ∷ xs) e = absurd (omega (arith, e))
 
 module _ {A : Type 0} where
   -- what is given back as long as it was lent stands in the bundle
-  pub sent : (b : List (Bor (List A))) (k : ℕ) (v : Bor (List A)) → length v.now ≡ length (list_at k b) → v.now ≡ list_at k (set b k v)
+  pub sent : (b : List (MutBor (List A))) (k : ℕ) (v : MutBor (List A)) → length v.now ≡ length (list_at k b) → v.now ≡ list_at k (set b k v)
   sent [] k v e = empty v.now e
   sent (x ∷ b) zero v e = refl
   sent (x ∷ b) (suc k) v e = sent b k v e
 
-  pub only : (b : List (Bor (List A))) (k : ℕ) (v : Bor (List A)) → length v.now ≡ length (list_at k b) → Only k b (set b k v)
+  pub only : (b : List (MutBor (List A))) (k : ℕ) (v : MutBor (List A)) → length v.now ≡ length (list_at k b) → Only k b (set b k v)
   only b k v e =
-      record { others = λ j h. ap (λ (x : Bor (List A)). x.now) (get_or-set_other b k j v (record { ref_ptr = (0, 0); now = [] }) h); long = ap length (sym (sent b k v e)) ∙ e }
+      record { others = λ j h. ap (λ (x : MutBor (List A)). x.now) (get_or-set_other b k j v (record { ref_ptr = (0, 0); ghost_name = 0; now = [] }) h); long = ap length (sym (sent b k v e)) ∙ e }
 
   -- a list that was only read
-  pub kept : (b : List (Bor (List A))) (k : ℕ) (v : Bor (List A)) → v.now ≡ list_at k b → Kept b (set b k v)
+  pub kept : (b : List (MutBor (List A))) (k : ℕ) (v : MutBor (List A)) → v.now ≡ list_at k b → Kept b (set b k v)
   kept b k v e = record { each = at b k e }
     where
-      at : (b : List (Bor (List A))) (k : ℕ) → v.now ≡ list_at k b → (j : ℕ) → list_at j (set b k v) ≡ list_at j b
+      at : (b : List (MutBor (List A))) (k : ℕ) → v.now ≡ list_at k b → (j : ℕ) → list_at j (set b k v) ≡ list_at j b
       at [] k e j = refl
       at (x ∷ b) zero e zero = e
       at (x ∷ b) zero e (suc j) = refl

@@ -1,13 +1,13 @@
 -- The lists that `detect` is lent, by name.
 use Rattle.std.specs.Prelude.{Bool, ◌&&◌, List, [], ℕ, ◌+◌, ◌*◌, leb, Float, length, get_or}
-use Rattle.std.specs.Borrow.{Bor}
+use Rattle.std.specs.Borrow.{MutBor}
 use Rattle.lists.specs.Lists.{every_below}
 use Rattle.layout.specs.Sides.{raster_fits}
 use Rattle.finding_lists.specs.Columns.{Columns}
 
 -- List k of a bundle of lent lists; empty where it has no such list.
-abbrev pub list_at : {A : Type 0} → ℕ → List (Bor (List A)) → List A
-list_at k bundle = (get_or bundle k (record { ref_ptr = (0, 0); now = [] })).now
+abbrev pub list_at : {A : Type 0} → ℕ → List (MutBor (List A)) → List A
+list_at k bundle = (get_or bundle k (record { ref_ptr = (0, 0); ghost_name = 0; now = [] })).now
 
 -- Of the rulings, with the sets of pieces, and of the tables, with the sets of printed rulings; the work lists have one entry a piece.
 pub record RuleLists : Type 0 where

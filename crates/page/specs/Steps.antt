@@ -1,6 +1,6 @@
 -- What question 14 shows of the lent lists, as plain facts, and what is kept of a bundle; none of it is needed to read the call's contract.
 use Rattle.std.specs.Prelude.{◌≡◌, List, ℕ, ◌+◌, ◌*◌, ◌≤◌, length}
-use Rattle.std.specs.Borrow.{Bor}
+use Rattle.std.specs.Borrow.{MutBor}
 use Rattle.finding_lists.specs.Steps.{Roomy}
 use Rattle.page.specs.Lent.{list_at, RuleLists, MarkLists, Lent}
 
@@ -49,10 +49,10 @@ pub record Room (w h n m : ℕ) (l : Lent) : Type 0 where
   pub found : Roomy (n + m) l.found
 
 -- Only list k may have changed, and it is as long as it was.
-pub record Only {A : Type 0} (k : ℕ) (bundle bundle' : List (Bor (List A))) : Type 0 where
+pub record Only {A : Type 0} (k : ℕ) (bundle bundle' : List (MutBor (List A))) : Type 0 where
   pub others : (j : ℕ) → (j ≡ k → ⊥) → list_at j bundle' ≡ list_at j bundle
   pub long : length (list_at k bundle') ≡ length (list_at k bundle)
 
 -- Every list is as it was.
-pub record Kept {A : Type 0} (bundle bundle' : List (Bor (List A))) : Type 0 where
+pub record Kept {A : Type 0} (bundle bundle' : List (MutBor (List A))) : Type 0 where
   pub each : (j : ℕ) → list_at j bundle' ≡ list_at j bundle

@@ -4,7 +4,7 @@ use mathlib.Core.Bool.{Bool, ◌&&◌}
 use mathlib.Core.List.{List, map}
 use Prim.Native.Nat.{ℕ, ◌+◌, ◌*◌}
 use native.Mathlib.Omega.{arith}
-use denote.Ref.{Bor}
+use denote.Ref.{MutBor}
 use lib.IntN.{ℤ}
 use lib.Ieee.{Float}
 use lib.ListN.{length, get_or, take}
@@ -28,7 +28,7 @@ use Rattle.page_findings.proofs.Steps.{told_folds, place_front, fold_front, told
 use Rattle.page_findings.proofs.Writing.{told_tables, told_loose, told_fold, told_grid, all}
 
 pub whole : (n : Counts) (sides : Sides) (shear shear_x : List ℤ) (p : RulingsParams) (f : FusionParams) (dpi : ℕ)
-    {ch0 ch1 re0 re1 re2 pa0 pa1 pa2 pa3 pa4 rc0 rc1 rc2 rc3 rc4 rc5 rc6 tg0 tg1 tg2 tg3 tg4 or0 or1 or2 or3 or4 or5 bd0 bd1 bd2 ky0 ky1 ky2 mb0 mb1 mb2 en0 en1 en2 nu0 nu1 nu2 bk0 bk1 bk2 li0 li1 le0 le1 le2 le3 le4 ro0 ro1 co0 co1 ru0 ru1 pg0 pg1 pg2 pg3 pg4 : List (Bor (List ℕ))} {va0 va1 va2 va3 va4 : List (Bor (List Float))} {l₀ l₁ l₂ l₃ l₄ : Columns} {b₁ b₂ b₃ b₄ : Bool} {m r : ℕ}
+    {ch0 ch1 re0 re1 re2 pa0 pa1 pa2 pa3 pa4 rc0 rc1 rc2 rc3 rc4 rc5 rc6 tg0 tg1 tg2 tg3 tg4 or0 or1 or2 or3 or4 or5 bd0 bd1 bd2 ky0 ky1 ky2 mb0 mb1 mb2 en0 en1 en2 nu0 nu1 nu2 bk0 bk1 bk2 li0 li1 le0 le1 le2 le3 le4 ro0 ro1 co0 co1 ru0 ru1 pg0 pg1 pg2 pg3 pg4 : List (MutBor (List ℕ))} {va0 va1 va2 va3 va4 : List (MutBor (List Float))} {l₀ l₁ l₂ l₃ l₄ : Columns} {b₁ b₂ b₃ b₄ : Bool} {m r : ℕ}
     → Ready n (record { rects = list_at 0 rc0; directions = list_at 0 tg0; contrasts = list_at 0 va0; printed = list_at 0 ch0; faint = list_at 1 re0; bounds = list_at 0 bd0; rows = list_at 0 ro0; columns = list_at 0 co0; rulings = list_at 0 ru0; shares = list_at 1 va0; free = list_at 0 re0; boxes = list_at 1 rc0; marks = list_at 1 tg0; coverages = list_at 2 va0; members = list_at 2 mb0; ends = list_at 2 en0; numbers = list_at 1 nu0 }) sides shear shear_x p dpi (record { places = list_at 0 pa0; folds = list_at 0 or0; keys = list_at 0 ky0; grid_keys = list_at 0 bk0; order = list_at 0 li0; grid_order = list_at 1 pa0; ranks = list_at 0 le0; grid_ranks = list_at 1 or0 }) l₀
     → (list_at 0 pa1 ≡ written (free_places (take n.printed (list_at 0 ch0)) (take n.free (list_at 0 re0))) (list_at 0 pa0)) × Kept ch0 ch1 × Kept re0 re1 × Only 0 pa0 pa1
     → Front (folds p dpi (take (4 * n.rulings) (list_at 0 rc0)) (take n.rulings (list_at 0 tg0)) (take n.faint (list_at 1 re1))) (list_at 0 or0) (list_at 0 or1) m × Kept rc0 rc1 × Kept tg0 tg1 × Kept re1 re2 × Only 0 or0 or1

@@ -50,7 +50,7 @@ pub fn find(
 ) -> Found
     requires { Ready n
         (record {
-          rects = list_at 0 rects.now;
+          rects = list_at 0 rects.old;
           directions = list_at 0 tags.old;
           contrasts = list_at 0 values.old;
           printed = list_at 0 chosen.old;
@@ -61,7 +61,7 @@ pub fn find(
           rulings = list_at 0 rulings.old;
           shares = list_at 1 values.old;
           free = list_at 0 rest.old;
-          boxes = list_at 1 rects.now;
+          boxes = list_at 1 rects.old;
           marks = list_at 1 tags.old;
           coverages = list_at 2 values.old;
           members = list_at 2 members.old;
@@ -82,7 +82,7 @@ pub fn find(
         (record { rects = list_at 0 page.old; facts = map (λ x. x.now) facts.old; scores = map (λ x. x.now) scores.old }) }
     ensures { Left n
         (record {
-          rects = list_at 0 rects.entry.now;
+          rects = list_at 0 rects.old;
           directions = list_at 0 tags.old;
           contrasts = list_at 0 values.old;
           printed = list_at 0 chosen.old;
@@ -93,7 +93,7 @@ pub fn find(
           rulings = list_at 0 rulings.old;
           shares = list_at 1 values.old;
           free = list_at 0 rest.old;
-          boxes = list_at 1 rects.entry.now;
+          boxes = list_at 1 rects.old;
           marks = list_at 1 tags.old;
           coverages = list_at 2 values.old;
           members = list_at 2 members.old;
@@ -103,7 +103,7 @@ pub fn find(
         (record { sides = sides; shear = shear.now; shear_x = shear_x.now; settings = p; caps = f }) dpi
         (record { rects = list_at 0 page.old; facts = map (λ x. x.now) facts.old; scores = map (λ x. x.now) scores.old })
         (record { rects = list_at 0 page.new; facts = map (λ x. x.now) facts.new; scores = map (λ x. x.now) scores.new }) result.count result.finite
-        × Kept rects.entry.now rects.exit.now × Kept tags.old tags.new × Kept values.old values.new
+        × Kept rects.old rects.new × Kept tags.old tags.new × Kept values.old values.new
         × Kept chosen.old chosen.new × Kept rest.old rest.new × Kept members.old members.new
         × Kept ends.old ends.new × Kept numbers.old numbers.new × Kept bounds.old bounds.new
         × Kept rows.old rows.new × Kept columns.old columns.new × Kept rulings.old

@@ -54,7 +54,7 @@ pub fn read(
       glyphs = glyphs.now;
     })
         (record {
-          levelled = list_at 0 levelled.now;
+          levelled = list_at 0 levelled.old;
           rects = list_at 0 rects.old;
           directions = list_at 0 tags.old;
           contrasts = list_at 0 values.old;
@@ -103,7 +103,7 @@ pub fn read(
       glyphs = glyphs.now;
     })
         (record {
-          levelled = list_at 0 levelled.entry.now;
+          levelled = list_at 0 levelled.old;
           rects = list_at 0 rects.old;
           directions = list_at 0 tags.old;
           contrasts = list_at 0 values.old;
@@ -139,7 +139,7 @@ pub fn read(
           keys = list_at 0 box_keys.old;
         })
         (record {
-          levelled = list_at 0 levelled.exit.now;
+          levelled = list_at 0 levelled.new;
           rects = list_at 0 rects.new;
           directions = list_at 0 tags.new;
           contrasts = list_at 0 values.new;

@@ -84,7 +84,7 @@ pub fn segments(
     keys: &mut [u64],
 ) -> Answer
     ensures { Segments (record {
-      raster = raster.entry.now;
+      raster = raster.now;
       w = w;
       h = h;
       xheight = xheight;
@@ -92,7 +92,7 @@ pub fn segments(
       pieces = pieces.now;
     })
         (record {
-          rects = rects.entry.now;
+          rects = rects.old;
           directions = directions.old;
           contrasts = contrasts.old;
           piece_members = members.old;
@@ -104,7 +104,7 @@ pub fn segments(
           keys = keys.old;
         })
         (record {
-          rects = rects.exit.now;
+          rects = rects.new;
           directions = directions.new;
           contrasts = contrasts.new;
           piece_members = members.new;

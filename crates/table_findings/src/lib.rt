@@ -55,7 +55,7 @@ pub fn finding(
         shares.now × (k < count bounds.now) }
     ensures { result ≡ table_at (record { sides = sides; shear = shear.now; shear_x = shear_x.now; settings = p; caps = f })
         (record {
-          bounds = bounds.entry.now;
+          bounds = bounds.now;
           rows = rows.now;
           columns = columns.now;
           rulings = rulings.now;
@@ -86,18 +86,18 @@ pub fn write(
 ) -> bool
     requires mapping { Mapping sides shear.now shear_x.now × TablesGiven sides.w sides.h bounds.now rows.now columns.now rulings.now
         shares.now }
-    requires ranks_given { RanksGiven ranks.now at (count bounds.now) (record { rects = rects.now; facts = map (λ x. x.now) facts.old; scores = map (λ x. x.now) scores.old }) }
+    requires ranks_given { RanksGiven ranks.now at (count bounds.now) (record { rects = rects.old; facts = map (λ x. x.now) facts.old; scores = map (λ x. x.now) scores.old }) }
     ensures { Wrote (table_at (record { sides = sides; shear = shear.now; shear_x = shear_x.now; settings = p; caps = f })
         (record {
-          bounds = bounds.entry.now;
+          bounds = bounds.now;
           rows = rows.now;
           columns = columns.now;
           rulings = rulings.now;
           shares = shares.now;
         }))
-        (count bounds.entry.now) ranks.now at
-        (record { rects = rects.entry.now; facts = map (λ x. x.now) facts.old; scores = map (λ x. x.now) scores.old })
-        (record { rects = rects.exit.now; facts = map (λ x. x.now) facts.new; scores = map (λ x. x.now) scores.new }) result }
+        (count bounds.now) ranks.now at
+        (record { rects = rects.old; facts = map (λ x. x.now) facts.old; scores = map (λ x. x.now) scores.old })
+        (record { rects = rects.new; facts = map (λ x. x.now) facts.new; scores = map (λ x. x.now) scores.new }) result }
 {
     let n = bounds.len() / 4;
     let mut all = true;

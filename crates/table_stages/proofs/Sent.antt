@@ -1,5 +1,5 @@
 -- What a core leaves, said of the lists as they stand in their bundles afterwards.
-use Rattle.core.specs.Prelude.{◌≡◌, ℕ, ◌≤◌, List, length, take}
+use Rattle.std.specs.Prelude.{◌≡◌, ℕ, ◌≤◌, List, length, take}
 use mathlib.Core.Path.{subst, transport}
 use lib.Ieee.{Float}
 use Rattle.shapes.specs.declared.limits.Limits.{Limits}

@@ -1,5 +1,5 @@
 -- What the stages ask of the lists that earlier ones filled.
-use Rattle.core.specs.Prelude.{ℕ, ◌*◌, ◌≤◌, List, length}
+use Rattle.std.specs.Prelude.{ℕ, ◌*◌, ◌≤◌, List, length}
 
 -- The lists hold n rulings and k places.
 pub record PartsLong (n k : ℕ) (rects directions places : List ℕ) : Type 0 where

@@ -2,7 +2,7 @@
 // rulings.
 #![tactic(auto)]
 
-ghost use Rattle.core.specs.Prelude.{◌*◌, take};
+ghost use Rattle.std.specs.Prelude.{◌*◌, take};
 ghost use Rattle.params.specs.Steps.{SettingsPassed};
 ghost use Rattle.meeting.specs.Steps.{Given};
 ghost use Rattle.shapes.specs.Limits.{table_limits_of};
@@ -12,7 +12,7 @@ ghost use Rattle.page.specs.Steps.{Only, Kept};
 ghost use Rattle.table_stages.specs.Steps.{PartsLong};
 
 use params::settings::RulingsParams;
-use tables::core::Counts;
+use tables::inner::Counts;
 
 // Among the k places of printed rulings, of n rulings.
 fn tables_of(
@@ -39,7 +39,7 @@ fn tables_of(
     requires { SettingsPassed p xheight × PartsLong n k rects.now directions.now printed.now
         × Given (take (4 * n) rects.now) (take n directions.now) (take k printed.now) × Roomy k
         (record {
-          members = members.now;
+          members = members.old;
           ends = ends.old;
           numbers = numbers.old;
           bounds = bounds.old;
@@ -54,7 +54,7 @@ fn tables_of(
         }) }
     ensures { Filled (take (4 * n) rects.now) (take n directions.now) (take k printed.now) (table_limits_of p xheight)
         (record {
-          members = members.entry.now;
+          members = members.old;
           ends = ends.old;
           numbers = numbers.old;
           bounds = bounds.old;
@@ -68,7 +68,7 @@ fn tables_of(
           keys = keys.old;
         })
         (record {
-          members = members.exit.now;
+          members = members.new;
           ends = ends.new;
           numbers = numbers.new;
           bounds = bounds.new;
@@ -84,7 +84,7 @@ fn tables_of(
         result.sets result.tables result.free }
 {
     let limits = shapes::limits::limits_of(p, xheight);
-    tables::core::find(
+    tables::inner::find(
         &rects[..4 * n],
         &directions[..n],
         &printed[..k],
@@ -128,7 +128,7 @@ pub fn tables_in(
     requires { SettingsPassed p xheight × PartsLong n k (list_at 0 rects.old) (list_at 0 tags.old) (list_at 0 chosen.old)
         × Given (take (4 * n) (list_at 0 rects.old)) (take n (list_at 0 tags.old)) (take k (list_at 0 chosen.old)) × Roomy k
         (record {
-          members = list_at 1 members.now;
+          members = list_at 1 members.old;
           ends = list_at 1 ends.old;
           numbers = list_at 0 numbers.old;
           bounds = list_at 0 bounds.old;
@@ -144,7 +144,7 @@ pub fn tables_in(
     ensures { Filled (take (4 * n) (list_at 0 rects.old)) (take n (list_at 0 tags.old))
         (take k (list_at 0 chosen.old)) (table_limits_of p xheight)
         (record {
-          members = list_at 1 members.entry.now;
+          members = list_at 1 members.old;
           ends = list_at 1 ends.old;
           numbers = list_at 0 numbers.old;
           bounds = list_at 0 bounds.old;
@@ -158,7 +158,7 @@ pub fn tables_in(
           keys = list_at 0 keys.old;
         })
         (record {
-          members = list_at 1 members.exit.now;
+          members = list_at 1 members.new;
           ends = list_at 1 ends.new;
           numbers = list_at 0 numbers.new;
           bounds = list_at 0 bounds.new;
@@ -173,7 +173,7 @@ pub fn tables_in(
         })
         result.sets result.tables result.free
         × Kept rects.old rects.new × Kept tags.old tags.new × Kept chosen.old chosen.new
-        × Only 1 members.entry.now members.exit.now × Only 1 ends.old ends.new × Only 0 numbers.old
+        × Only 1 members.old members.new × Only 1 ends.old ends.new × Only 0 numbers.old
         numbers.new
         × Only 0 bounds.old bounds.new × Only 0 rows.old rows.new × Only 0 columns.old
         columns.new

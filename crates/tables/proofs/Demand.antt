@@ -1,5 +1,5 @@
 -- Demand 3: the closed sets are listed, those that are tables and those that are not are listed in turn, each once.
-use Rattle.core.specs.Prelude.{ℕ, not, List, length, get_or}
+use Rattle.std.specs.Prelude.{ℕ, not, List, length, get_or}
 use lib.ListN.{length-map}
 use Rattle.sets.proofs.Grown.{closed_sets_listed}
 use Rattle.sets.proofs.Where.{listed_where}

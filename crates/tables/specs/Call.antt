@@ -1,5 +1,5 @@
 -- What `tables` promises, for accepted and for refused input, with demand 3 for printed rulings.
-use Rattle.core.specs.Prelude.{◌≡◌, ℕ, ◌*◌, ◌<◌, Bool, cond, not, ◌&&◌, List, [], map, length, ◌==◌, ◌≢◌, nat_le, slice_index_or}
+use Rattle.std.specs.Prelude.{◌≡◌, ℕ, ◌*◌, ◌<◌, Bool, cond, not, ◌&&◌, List, [], map, length, ◌==◌, ◌≢◌, nat_le, slice_index_or}
 use Rattle.std.specs.Prelude.{Float}
 use Rattle.lists.specs.Lists.{below, concat, written}
 use Rattle.sets.specs.Closed.{Below, Listed, ListedWhere}

@@ -1,5 +1,5 @@
 -- What the functions under `tables` say to each other; none of it is needed to read the call's contract.
-use Rattle.core.specs.Prelude.{◌≡◌, ℕ, ◌*◌, ◌≤◌, List, length}
+use Rattle.std.specs.Prelude.{◌≡◌, ℕ, ◌*◌, ◌≤◌, List, length}
 use Rattle.std.specs.Prelude.{Float}
 use Rattle.lists.specs.Lists.{concat, written}
 use Rattle.sets.specs.Listing.{ends_from, ReadAs}
@@ -38,7 +38,7 @@ lists_of l =
       keys = l.keys;
     }
 
--- What `core` leaves of the answers, and their counts; the lists give each set back.
+-- What `inner` leaves of the answers, and their counts; the lists give each set back.
 pub record Filled (rects directions chosen : List ℕ) (lim : Limits) (l l' : Lists) (ss ts fs : ℕ) : Type 0 where
   pub set_count : ss ≡ length (all_sets rects directions chosen lim)
   pub table_count : ts ≡ length (tables rects directions chosen lim)

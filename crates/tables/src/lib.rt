@@ -1,7 +1,7 @@
 // Tables: connected sets of horizontal and vertical rulings with enough of each; the other rulings are free.
 #![tactic(auto)]
 
-pub mod core;
+pub mod inner;
 
 ghost use Rattle.tables.specs.Call.{Tables};
 
@@ -105,7 +105,7 @@ pub fn tables(
     }
     sets::begin(chosen, n);
     let limits = shapes::limits::limits_of(p, xheight);
-    let found = core::find(
+    let found = inner::find(
         rects,
         directions,
         &chosen[..n],

@@ -1,6 +1,6 @@
 -- `marked_boxes::grids_of` meets its contract: the part that is lent on is as long as it says.
 use borrow.Author.Rules.{rules}
-use Rattle.core.specs.Prelude.{◌*◌}
+use Rattle.std.specs.Prelude.{◌*◌}
 use Rattle.grids.proofs.Accepting.{limit_small}
 use Rattle.page.proofs.Bundle.{cut}
 use Rattle.box_stages.proofs.Sent.{grids_within, grids_room}

@@ -1,11 +1,10 @@
 -- `box_grids` meets its contract: the guard decides, then the core finds what there is.
-use Rattle.core.specs.Prelude.{◌≡◌}
+use Rattle.std.specs.Prelude.{◌≡◌}
 use mathlib.Core.Path.{sym, ◌∙◌}
 use Rattle.questions.specs.Questions.{first_missed}
 use Rattle.grids.specs.Call.{Given, Lent, questions}
 use Rattle.grids.proofs.Passing.{Passed, passed}
 use Rattle.grids.proofs.Accepting.{limit_small, asked, refused, accepted}
-use borrow.Author.Rules.{rules}
 use Rattle.grids.proofs.box_grids.Goals.{After-missed-number, Else-number-ne0, Start}
 use Rattle.grids.proofs.box_grids.Goals as goal
 
@@ -31,14 +30,14 @@ number_is c = asked (given c.before.before.before.before.before.before.before.be
 
 -- what is known once it is 0
 known : (c : Else-number-ne0) → Passed (given c.before.before.before.before.before.before.before.before.before.before.before.before) (lent c.before.before.before.before.before.before.before.before.before.before.before.before)
-known c = passed (given c.before.before.before.before.before.before.before.before.before.before.before.before) (lent c.before.before.before.before.before.before.before.before.before.before.before.before) (sym (number_is c.After-missed-number) ∙ c.if-number-ne0.false)
+known c = passed (given c.before.before.before.before.before.before.before.before.before.before.before.before) (lent c.before.before.before.before.before.before.before.before.before.before.before.before) (sym (asked (given c.before.before.before.before.before.before.before.before.before.before.before.before) (lent c.before.before.before.before.before.before.before.before.before.before.before.before) c.missed-number.ensures c.room_for_boxes-room.ensures) ∙ c.if-number-ne0.false)
 
 pub returns-then-number-ne0 : goal.returns-then-number-ne0
 returns-then-number-ne0 c =
     refused (given (goal.at.returns-then-number-ne0 c).Start) (lent (goal.at.returns-then-number-ne0 c).Start) (number_is (goal.at.returns-then-number-ne0 c).After-missed-number) c.if-number-ne0.true
 
 pub limit-limit-requires : goal.limit-limit-requires
-limit-limit-requires c = (known (c)).settled
+limit-limit-requires c = (known c).settled
 
 pub find-found-requires : goal.find-found-requires
 find-found-requires c =

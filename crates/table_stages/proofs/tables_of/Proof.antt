@@ -1,6 +1,6 @@
 -- `ruled_tables::tables_of` meets its contract: the parts that are lent on are as long as they say.
 use borrow.Author.Rules.{rules}
-use Rattle.core.specs.Prelude.{◌*◌}
+use Rattle.std.specs.Prelude.{◌*◌}
 use Rattle.tables.proofs.Accepting.{join_of}
 use Rattle.page.proofs.Bundle.{cut}
 use Rattle.table_stages.proofs.Sent.{tables_within, tables_room}

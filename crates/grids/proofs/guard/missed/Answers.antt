@@ -1,7 +1,5 @@
 -- `guard::missed` meets its contract: the tests on the way are the questions in order.
 use mathlib.Core.Path.{◌∙◌}
-use borrow.Author.Rules.{rules}
-use borrow.Author.Tests.{not-true, not-false}
 use Rattle.grids.proofs.Passing.{in_order, by_scan, by_given, by_inside, by_settings, by_room, by_none}
 use Rattle.grids.proofs.guard.missed.Goals as goal
 

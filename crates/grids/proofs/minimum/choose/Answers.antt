@@ -1,7 +1,6 @@
 -- `minimum::choose` meets its contract: after k turns the first k sets are gone through.
-use Rattle.core.specs.Prelude.{◌≡◌, ℕ, ◌+◌, ◌-◌, ◌<◌, ◌≤◌, List, length, set}
+use Rattle.std.specs.Prelude.{◌≡◌, ℕ, ◌+◌, ◌<◌, ◌≤◌, List, length, set}
 use mathlib.Core.Path.{refl, ◌∙◌, subst}
-use mathlib.Core.Logic.{⊎_elim}
 use Prim.Native.Nat.{zero-le}
 use native.Mathlib.Omega.{arith}
 use lib.ListN.{length-set}
@@ -9,6 +8,7 @@ use Rattle.sets.specs.Listing.{members_of}
 use Rattle.grids.specs.Steps.{Chose}
 use Rattle.grids.proofs.Choosing.{grids_few, chose_none, chose_one, chose_past}
 use Rattle.grids.proofs.minimum.choose.Invariants.{Progress}
+use Rattle.grids.proofs.minimum.choose.Goals.{then-least-set, else-least-set}
 use Rattle.grids.proofs.minimum.choose.Goals as goal
 
 module _ (least : ℕ) (f : ℕ → List ℕ) {n : ℕ} {nu nu' : List ℕ} {g k : ℕ} (P : Progress least f n nu nu' g k) (l : k < n) where
@@ -58,8 +58,10 @@ loop-k-smaller c = omega (arith, c.loop-k-test.true)
 pub loop-k-preserved : goal.loop-k-preserved
 loop-k-preserved c =
     let f = members_of c.args.members.now c.args.ends.now c.args.count in
-    ⊎_elim (λ w. moved (grid c.args.least f c.loop-k.invariant c.loop-k-test.true c.requires.1 c.members_of-set.ensures w.0.taken) w.1 w.2)
-    (λ w. moved (past c.args.least f c.loop-k.invariant c.loop-k-test.true c.requires.1 c.members_of-set.ensures w.0.left) w.1 w.2) c.if-least-set.branch
+    elim c.if-least-set.branch [
+      | then-least-set w ↦ moved (grid c.args.least f c.loop-k.invariant c.loop-k-test.true c.requires.1 c.members_of-set.ensures w.if-least-set.true) w.numbers-is w.grids-is
+      | else-least-set w ↦ moved (past c.args.least f c.loop-k.invariant c.loop-k-test.true c.requires.1 c.members_of-set.ensures w.if-least-set.false) w.numbers-is w.grids-is
+    ]
 
 pub shape_of-numbers : goal.shape_of-numbers
 shape_of-numbers c = c.loop-k.invariant.long

@@ -1,13 +1,7 @@
 -- `minimum::choose` meets its contract: after k turns the first k sets are gone through.
-use Rattle.core.specs.Prelude.{◌≡◌, ℕ, ◌+◌, ◌-◌, ◌<◌, ◌≤◌, List, length, set}
-use mathlib.Core.Path.{refl, ◌∙◌, subst}
-use mathlib.Core.Logic.{⊎_elim}
-use Prim.Native.Nat.{zero-le}
-use native.Mathlib.Omega.{arith}
-use lib.ListN.{length-set}
+use Rattle.std.specs.Prelude.{◌≡◌, ℕ, ◌-◌, ◌≤◌, List, length}
 use Rattle.sets.specs.Listing.{members_of}
 use Rattle.grids.specs.Steps.{Chose}
-use Rattle.grids.proofs.Choosing.{grids_few, chose_none, chose_one, chose_past}
 use Rattle.grids.proofs.minimum.choose.Given as goal
 
 pub record Progress (least : ℕ) (f : ℕ → List ℕ) (n : ℕ) (nu nu' : List ℕ) (g k : ℕ) : Type 0 where

@@ -1,5 +1,5 @@
 // Closed sets of boxes, their reading order and the grids among them: the core, which asks for what the questions show.
-ghost use Rattle.core.specs.Prelude.{◌≡◌, ◌^◌, ◌<◌};
+ghost use Rattle.std.specs.Prelude.{◌≡◌, ◌^◌, ◌<◌};
 ghost use Rattle.rects.specs.Rects.{count};
 ghost use Rattle.params.specs.Limits.{align_limit};
 ghost use Rattle.params.specs.Steps.{SettingsPassed};
@@ -40,7 +40,7 @@ pub fn find(
 ) -> Counts
     requires { (limit < 2 ^ 40) × PassedBoxes rects.now × Roomy (count rects.now)
         (record {
-          members = members.now;
+          members = members.old;
           ends = ends.old;
           reading = reading.old;
           numbers = numbers.old;
@@ -50,7 +50,7 @@ pub fn find(
         }) }
     ensures { Filled rects.now limit least
         (record {
-          members = members.entry.now;
+          members = members.old;
           ends = ends.old;
           reading = reading.old;
           numbers = numbers.old;
@@ -59,7 +59,7 @@ pub fn find(
           keys = keys.old;
         })
         (record {
-          members = members.exit.now;
+          members = members.new;
           ends = ends.new;
           reading = reading.new;
           numbers = numbers.new;

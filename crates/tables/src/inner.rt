@@ -1,5 +1,5 @@
 // Tables and free rulings among the chosen ones: the core, which asks for what the questions show.
-ghost use Rattle.core.specs.Prelude.{◌*◌, ◌^◌, ◌<◌, ◌≤◌, length, take};
+ghost use Rattle.std.specs.Prelude.{◌*◌, ◌^◌, ◌<◌, ◌≤◌, length, take};
 ghost use Rattle.sets.specs.Listing.{members_of};
 ghost use Rattle.meeting.specs.Steps.{Given};
 ghost use Rattle.table_lists.specs.Steps.{SetsIn, Numbers, FactsWritten};
@@ -73,7 +73,7 @@ pub fn find(
 ) -> Counts
     requires join_bound { (limits.join < 2 ^ 32) × Given rects.now directions.now chosen.now }
     requires roomy { Roomy (length chosen.now) (record {
-      members = members.now;
+      members = members.old;
       ends = ends.old;
       numbers = numbers.old;
       bounds = bounds.old;
@@ -88,7 +88,7 @@ pub fn find(
     }) }
     ensures { Filled rects.now directions.now chosen.now limits
         (record {
-          members = members.entry.now;
+          members = members.old;
           ends = ends.old;
           numbers = numbers.old;
           bounds = bounds.old;
@@ -102,7 +102,7 @@ pub fn find(
           keys = keys.old;
         })
         (record {
-          members = members.exit.now;
+          members = members.new;
           ends = ends.new;
           numbers = numbers.new;
           bounds = bounds.new;

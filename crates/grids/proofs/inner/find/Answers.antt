@@ -1,9 +1,9 @@
--- `core::find` meets its contract: the member list gives each closed set back, and the passes go through them.
-use Rattle.core.specs.Prelude.{◌≡◌, ℕ, ◌≤◌}
+-- `inner::find` meets its contract: the member list gives each closed set back, and the passes go through them.
+use Rattle.std.specs.Prelude.{◌≡◌, ℕ, ◌≤◌}
 use mathlib.Core.Path.{◌∙◌}
 use native.Mathlib.Omega.{arith}
 use Rattle.grids.proofs.Filling.{set_is, sets_in, filled}
-use Rattle.grids.proofs.core.find.Goals as goal
+use Rattle.grids.proofs.inner.find.Goals as goal
 
 still : {n a b : ℕ} → n ≤ a → b ≡ a → n ≤ b
 still h e = omega arith
