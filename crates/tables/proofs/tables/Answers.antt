@@ -9,7 +9,6 @@ use Rattle.tables.specs.Call.{Given, Lent, questions}
 use Rattle.tables.specs.Steps.{lists_of}
 use Rattle.tables.proofs.Passing.{Passed, passed}
 use Rattle.tables.proofs.Accepting.{asked, refused, found, all_chosen, join_of, given_all, roomy_all}
-use borrow.Author.Rules.{rules}
 use Rattle.tables.proofs.tables.Goals.{After-missed-number, After-room_for_indexes, Else-number-ne0, Start}
 use Rattle.tables.proofs.tables.Goals as goal
 
@@ -69,10 +68,10 @@ pub find-found-requires : goal.find-found-requires
 find-found-requires c =
     let P = known (goal.at.find-found-requires c).Else-number-ne0 in
     let n = count c.args.rects.now in
-    let all = c.begin.ensures in (
-      (join_of c.args.p c.args.xheight c.limits_of-limits.ensures P.settled, given_all n c.args.chosen.now all P.given),
-      roomy_all (lists_of (lent (goal.at.find-found-requires c).Start)) P.roomy (all_chosen n c.args.chosen.now all),
-    )
+    let all = c.begin.ensures in record {
+      join_bound = (join_of c.args.p c.args.xheight c.limits_of-limits.ensures P.settled, given_all n c.args.chosen.now all P.given);
+      roomy = roomy_all (lists_of (lent (goal.at.find-found-requires c).Start)) P.roomy (all_chosen n c.args.chosen.now all);
+    }
 
 pub shape_of-members : goal.shape_of-members
 shape_of-members c = c.find-found.auto.members

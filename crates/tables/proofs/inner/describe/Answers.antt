@@ -1,5 +1,4 @@
 -- `inner::describe` meets its contract: the tables are bounded and then measured.
-use borrow.Author.Rules.{rules}
 use Rattle.tables.proofs.inner.describe.Goals as goal
 
 pub bound-requires : goal.bound-requires

@@ -3,7 +3,6 @@ use Rattle.std.specs.Prelude.{◌≡◌, ℕ, ◌*◌, ◌≤◌}
 use mathlib.Core.Path.{◌∙◌}
 use native.Mathlib.Omega.{arith}
 use Rattle.tables.proofs.Filling.{set_is, read, sets_in, tables_low, numbers_in, filled}
-use borrow.Author.Rules.{rules}
 use Rattle.tables.proofs.inner.find.Goals as goal
 
 kept_room : {n a b : ℕ} → n ≤ a → b ≡ a → n ≤ b

@@ -16,9 +16,7 @@ use Rattle.evidence.specs.declared.finding.Finding.{Finding}
 use Rattle.evidence.specs.Kinds.{grid_finding}
 use Rattle.findings.specs.Made.{Scan, on_page, mean_at, ticked, grid_of}
 use Rattle.findings.proofs.Given.{places_given, set_inside, rects_given}
-use borrow.Author.Rules.{rules}
-use Rattle.grid_findings.proofs.finding.Statement.{statement}
-use Rattle.grid_findings.proofs.finding.Tie as tie
+use Rattle.grid_findings.proofs.finding.Goals as goal
 
 -- a grid from the facts of its set
 from_facts : (s : Scan) (rects marks : List ℕ) (coverages : List Float) (set : List ℕ) {found : Finding} {bbox : PageRect} {r : Rect} {t : ℕ} {mean : Float}
@@ -30,48 +28,20 @@ from_facts s rects marks coverages set found-is bbox-is r-is t-is mean-is = rw (
 few_kept : (q : ℕ → Bool) (set : List ℕ) → length set ≤ 16384 → length (keep q set) < 2 ^ 32
 few_kept q set few = let l = keep_size_le q set in omega arith
 
-bounding-requires : tie.Need-bounding-requires
-bounding-requires c κs =
-    let s = c.before.before.before.before in
-    (s.requires.1, places_given s.args.rects.now s.args.set.now (rects_given s.requires.1 s.requires.2))
+pub bounding-requires : goal.bounding-requires
+bounding-requires c =
+    (c.requires.1, places_given c.args.rects.now c.args.set.now (rects_given c.requires.1 c.requires.2))
 
-on-page-requires : tie.Need-on-page-requires
-on-page-requires c κs =
-    let s = c.before.before.before.before.before in
-    (s.requires.0, rw c.bounding.ensures (set_inside s.args.rects.now s.args.set.now (rects_given s.requires.1 s.requires.2)))
+pub on_page-bbox-requires : goal.on_page-bbox-requires
+on_page-bbox-requires c =
+    (c.requires.0, rw c.bounding.ensures (set_inside c.args.rects.now c.args.set.now (rects_given c.requires.1 c.requires.2)))
 
-count-equal-requires : tie.Need-count-equal-requires
-count-equal-requires c κs = search rules
+pub overflow_cast-ticked : goal.overflow_cast-ticked
+overflow_cast-ticked c =
+    record { fits = rw c.count_equal-ticked.ensures (few_kept _ c.args.set.now c.requires.2.given.entries.few) }
 
-cast-ticked : tie.Need-overflow-cast-ticked
-cast-ticked c =
-    let s = c.before.before.before.before.before.before.before in
-    record { fits = rw c.count-equal.ensures (few_kept _ s.args.set.now s.requires.2.given.entries.few) }
-
-mean-requires : tie.Need-mean-requires
-mean-requires c κs = search rules
-
-cast-grid-finding : tie.Need-overflow-cast-grid-finding
-cast-grid-finding c = search rules
-
-grid-finding-requires : tie.Need-grid-finding-requires
-grid-finding-requires c κs = search rules
-
-returns : tie.Need-returns
+pub returns : goal.returns
 returns c =
-    let a = c.before.before.before.before.before.before.before.before.before.args in
+    let a = c.args in
     from_facts (record { sides = a.sides; shear = a.shear.now; shear_x = a.shear_x.now; settings = a.p; caps = a.f }) a.rects.now a.marks.now a.coverages.now a.set.now
-    c.grid-finding.ensures c.before.before.before.on_page_lem.ensures c.before.before.before.before.bounding.ensures c.before.before.count-equal.ensures c.before.mean.ensures
-
-pub finding-spec : {M : Type 1} → statement M
-finding-spec =
-    tie.close
-    (tie.spec
-    bounding-requires
-    on-page-requires
-    count-equal-requires
-    cast-ticked
-    mean-requires
-    cast-grid-finding
-    grid-finding-requires
-    returns)
+    c.grid_finding.ensures c.on_page-bbox.ensures c.bounding.ensures c.count_equal-ticked.ensures c.mean-mean.ensures
