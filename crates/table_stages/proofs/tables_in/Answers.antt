@@ -1,5 +1,4 @@
 -- `ruled_tables::tables_in` meets its contract.
-use borrow.Author.Rules.{rules}
 use mathlib.Core.Path.{refl}
 use Rattle.page.proofs.Bundle.{sent, only, kept}
 use Rattle.table_stages.proofs.Sent.{tables_sent}

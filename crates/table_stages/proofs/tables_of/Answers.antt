@@ -1,5 +1,4 @@
 -- `ruled_tables::tables_of` meets its contract: the parts that are lent on are as long as they say.
-use borrow.Author.Rules.{rules}
 use Rattle.std.specs.Prelude.{◌*◌}
 use Rattle.tables.proofs.Accepting.{join_of}
 use Rattle.page.proofs.Bundle.{cut}

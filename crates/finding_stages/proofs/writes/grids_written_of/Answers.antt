@@ -1,0 +1,29 @@
+-- `writes::grids_written_of` meets its contract: the parts that are lent on are as long as they say.
+use Prim.Native.Nat.{◌*◌}
+use native.Mathlib.Omega.{arith}
+use Rattle.page.proofs.Bundle.{cut}
+use Rattle.finding_stages.proofs.writes.grids_written_of.Goals as goal
+
+pub overflow_mul-boxes : goal.overflow_mul-boxes
+overflow_mul-boxes c = record { fits = omega (arith, c.requires.0.rects_long, c.well_formed.1.1.1.1.1.1.1.1.0.1) }
+
+pub slice_bounds-write-end : goal.slice_bounds-write-end
+slice_bounds-write-end c = cut (4 * c.args.boxes) c.args.rects.now c.requires.0.rects_long
+
+pub slice_bounds-write-end-2 : goal.slice_bounds-write-end-2
+slice_bounds-write-end-2 c = cut c.args.boxes c.args.marks.now c.requires.0.marks_long
+
+pub slice_bounds-write-end-3 : goal.slice_bounds-write-end-3
+slice_bounds-write-end-3 c = cut c.args.boxes c.args.coverages.now c.requires.0.coverages_long
+
+pub slice_bounds-write-end-4 : goal.slice_bounds-write-end-4
+slice_bounds-write-end-4 c = cut c.args.grids c.args.numbers.now c.requires.0.numbers_long
+
+pub write-requires : goal.write-requires
+write-requires c = record { mapping = (c.requires.1, c.requires.2); ranks_given = c.requires.3 }
+
+pub shape_of-page : goal.shape_of-page
+shape_of-page c = c.write.auto.page
+
+pub returns : goal.returns
+returns c = c.write.ensures

@@ -1,0 +1,32 @@
+-- `writes::tables_written_of` meets its contract: the parts that are lent on are as long as they say.
+use Prim.Native.Nat.{◌*◌}
+use native.Mathlib.Omega.{arith}
+use Rattle.page.proofs.Bundle.{cut}
+use Rattle.finding_stages.proofs.writes.tables_written_of.Goals as goal
+
+pub overflow_mul-tables : goal.overflow_mul-tables
+overflow_mul-tables c = record { fits = omega (arith, c.requires.0.bounds_long, c.well_formed.1.1.1.1.1.1.0.1) }
+
+pub slice_bounds-write-end : goal.slice_bounds-write-end
+slice_bounds-write-end c = cut (4 * c.args.tables) c.args.bounds.now c.requires.0.bounds_long
+
+pub slice_bounds-write-end-2 : goal.slice_bounds-write-end-2
+slice_bounds-write-end-2 c = cut c.args.tables c.args.rows.now c.requires.0.rows_long
+
+pub slice_bounds-write-end-3 : goal.slice_bounds-write-end-3
+slice_bounds-write-end-3 c = cut c.args.tables c.args.columns.now c.requires.0.columns_long
+
+pub slice_bounds-write-end-4 : goal.slice_bounds-write-end-4
+slice_bounds-write-end-4 c = cut c.args.tables c.args.rulings.now c.requires.0.rulings_long
+
+pub slice_bounds-write-end-5 : goal.slice_bounds-write-end-5
+slice_bounds-write-end-5 c = cut c.args.tables c.args.shares.now c.requires.0.shares_long
+
+pub write-requires : goal.write-requires
+write-requires c = record { mapping = (c.requires.1, c.requires.2); ranks_given = c.requires.3 }
+
+pub shape_of-page : goal.shape_of-page
+shape_of-page c = c.write.auto.rects
+
+pub returns : goal.returns
+returns c = c.write.ensures
