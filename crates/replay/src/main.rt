@@ -19,7 +19,7 @@ mod floats;
 mod glyphs;
 mod levelled;
 mod pages;
-mod pieces;
+mod piece_sets;
 mod rulings;
 mod settings;
 mod squares;

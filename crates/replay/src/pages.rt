@@ -2,7 +2,7 @@
 // (the raster or the ink), each a list, empty where the call has none. No page has more than 16
 // rectangles and 256 pixels.
 use crate::settings::Given;
-use crate::{glyphs, pieces, rulings, settings, squares};
+use crate::{glyphs, piece_sets, rulings, settings, squares};
 use std::io;
 use stored::words;
 
@@ -38,7 +38,7 @@ fn answer(
     bytes: &[u8],
 ) -> io::Result<()> {
     match call {
-        5 => pieces::answer(rt, given, rects, bytes),
+        5 => piece_sets::answer(rt, given, rects, bytes),
         6 => rulings::answer(rt, given, rects, directions),
         7 => glyphs::answer(rt, given, rects, bytes),
         8 => squares::answer(rt, given, rects),

@@ -1,5 +1,5 @@
 // Answers to `detect`: number and counts, the levelled raster, then list after list.
-use crate::findings;
+use crate::finding_rows;
 use small_pages::found;
 use small_pages::found::Found;
 use small_pages::given::Given;
@@ -28,7 +28,7 @@ pub fn answer(
     write_printed(rt, &found, counts[2], counts[3], counts[8])?;
     write_tables(rt, &found, counts[4], counts[9])?;
     write_boxes(rt, &found, counts[5], counts[6], counts[10])?;
-    findings::write(rt, &found, counts[7])?;
+    finding_rows::write(rt, &found, counts[7])?;
     written::end(rt)
 }
 

@@ -12,7 +12,7 @@ use std::io;
 use stored::{input, words};
 
 mod answers;
-mod findings;
+mod finding_rows;
 mod pages;
 
 fn main(rt: HostRuntime) -> io::Result<()> {

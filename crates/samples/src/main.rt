@@ -5,7 +5,7 @@
 use std::io;
 
 mod answer_boxes;
-mod contrast;
+mod contrasts;
 mod floats;
 mod joining;
 mod ruled_tables;
@@ -13,7 +13,7 @@ mod settings;
 
 fn main(rt: HostRuntime) -> io::Result<()> {
     floats::run(&rt)?;
-    contrast::run(&rt)?;
+    contrasts::run(&rt)?;
     answer_boxes::run(&rt)?;
     joining::run(&rt)?;
     ruled_tables::run(&rt)
