@@ -47,8 +47,16 @@ pub const LENT: [&str; 2] = ["⌜◌⌝", "◌∗◌"];
 pub const RESULT: &str = "result";
 
 /// Fields of the kit's own records: what a reference points to, as the call begins and at the return, a
-/// parameter that holds references at both times, and where a reference points.
-pub const FIELDS: [&str; 6] = ["now", "old", "new", "entry", "exit", "ref_ptr"];
+/// parameter that holds references at both times, where a reference points, and the name of a `&mut`.
+pub const FIELDS: [&str; 7] = [
+    "now",
+    "old",
+    "new",
+    "entry",
+    "exit",
+    "ref_ptr",
+    "ghost_name",
+];
 
 /// Constructors among the kit's names: in a pattern these are said, and any other name is bound.
 pub const CONSTRUCTORS: [&str; 20] = [
