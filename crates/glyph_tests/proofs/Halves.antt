@@ -1,5 +1,5 @@
 -- The inner half of a frame: it is in order, and has a place at least.
-use Rattle.std.proofs.Common.{◌≡◌, ℕ, ◌-◌, ◌*◌, ◌^◌, ◌<◌, ◌≤◌, max, List, sym, ap, ◌∙◌, ap₂, lt_of_le_of_lt, mul-le-mul, arith, lit<}
+use Rattle.std.proofs.Common.{◌≡◌, ℕ, ◌*◌, ◌^◌, ◌<◌, ◌≤◌, max, List, sym, ap, ◌∙◌, ap₂, lt_of_le_of_lt, mul-le-mul, arith, lit<}
 use lib.Ieee.{binary64, div}
 use Rattle.math.specs.Sum.{whole}
 use Rattle.rects.specs.Rects.{width_of, height_of}

@@ -2,7 +2,7 @@
 use mathlib.Core.Path.{◌≡◌, sym, ap₂, ◌∙◌}
 use mathlib.Core.Bool.{Bool, true, false}
 use mathlib.Core.List.{List, ◌++◌}
-use Prim.Native.Nat.{ℕ, suc, ◌+◌, ◌-◌, ◌*◌, ◌<◌, ◌≤◌}
+use Prim.Native.Nat.{ℕ, suc, ◌+◌, ◌*◌, ◌<◌, ◌≤◌}
 use native.Mathlib.Nat.{add-mul, mul-add, suc-mul, mul_comm, mul-le-mul, mul-le-mul_right, le_trans, le_of_eq}
 use native.Mathlib.Omega.{arith}
 use lib.Dec.{eqb}

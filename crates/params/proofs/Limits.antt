@@ -8,7 +8,6 @@ use lib.Dec.{eqb, lit<, lit≤}
 use lib.IntN.{ℤ}
 use lib.Ieee.{Float, binary64, mul, lt, of_bits}
 use lib.Ieee.Positive.{num, den, value→cross}
-use lib.Ieee.Scale.{finite}
 use borrow.Author.Tests.{not-true, eqb-false}
 use Rattle.math.specs.Constants.{zero, two}
 use Rattle.math.specs.Rounding.{rounded_product}

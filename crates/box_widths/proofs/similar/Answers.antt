@@ -1,6 +1,5 @@
 -- `touch::similar` meets its contract: the difference of whole numbers and the greatest of them are exact floats.
 use native.Mathlib.Omega.{arith}
-use borrow.Author.Rules.{rules}
 use Rattle.box_widths.proofs.SimilarWidths.{found_similar}
 use Rattle.box_widths.proofs.similar.Goals as goal
 

@@ -1,6 +1,5 @@
 -- `touch::size_at` meets its contract: the box was read, and its width is taken.
 use mathlib.Core.Path.{◌≡◌, ap, ◌∙◌}
-use borrow.Author.Rules.{rules}
 use Rattle.rects.specs.declared.Rect.{Rect}
 use Rattle.rects.specs.Rects.{width_of}
 use Rattle.rects.specs.Steps.{Inside}

@@ -4,7 +4,6 @@ use native.Mathlib.Omega.{arith}
 use native.Mathlib.Nat.{le_of_eq}
 use lib.Dec.{lit≤}
 use lib.ListN.{get_or-replicate}
-use borrow.Author.Rules.{rules}
 use Rattle.paper.specs.Pixels.{samples}
 use Rattle.contrast.proofs.Mean.{contrasted}
 use Rattle.contrast.proofs.contrast.Goals as goal

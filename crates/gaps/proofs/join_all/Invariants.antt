@@ -1,13 +1,10 @@
 -- `gaps::join_all` meets its contract: each turn sees one row more, and all rows are the whole rule.
-use mathlib.Core.Path.{◌≡◌, refl, ◌∙◌}
+use mathlib.Core.Path.{◌≡◌}
 use mathlib.Core.List.{List}
-use Prim.Native.Nat.{ℕ, ◌+◌, ◌-◌, ◌≤◌, ◌<◌, zero-le}
-use native.Mathlib.Omega.{arith}
+use Prim.Native.Nat.{ℕ, ◌+◌, ◌-◌, ◌≤◌}
 use lib.ListN.{length}
-use Rattle.lists.specs.Lists.{below, written}
 use Rattle.sets.specs.Closed.{Below}
-use Rattle.sets.specs.Steps.{Joins, Seen, Room}
-use Rattle.sets.proofs.Pairs.{pairs_begin, row_next, all_seen}
+use Rattle.sets.specs.Steps.{Joins, Seen}
 use Rattle.gaps.specs.Gaps.{Touch}
 use Rattle.gaps.proofs.join_all.Given as goal
 

@@ -3,13 +3,11 @@ use mathlib.Core.Path.{◌≡◌, refl, sym, ◌∙◌}
 use mathlib.Core.Bool.{Bool}
 use mathlib.Core.Logic.{⊎_elim, inl}
 use mathlib.Core.List.{List}
-use Prim.Native.Nat.{ℕ, ◌+◌, ◌-◌, ◌≤◌, ◌<◌}
+use Prim.Native.Nat.{ℕ, ◌+◌, ◌<◌}
 use native.Mathlib.Nat.{max_comm, min_comm}
 use native.Mathlib.Omega.{arith}
-use borrow.Author.Rules.{rules}
 use lib.ListN.{length, get_or}
-use Rattle.sets.specs.Closed.{Below}
-use Rattle.sets.specs.Steps.{Joins, Seen, Joined}
+use Rattle.sets.specs.Steps.{Joined}
 use Rattle.sets.proofs.Pairs.{pair_next}
 use Rattle.gaps.specs.Gaps.{near, touch, Touch}
 use Rattle.gaps.proofs.join_row.Invariants.{Row}

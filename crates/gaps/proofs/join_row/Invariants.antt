@@ -1,17 +1,11 @@
 -- `gaps::join_row` meets its contract: each turn sees one pair more.
-use mathlib.Core.Path.{◌≡◌, refl, sym, ◌∙◌}
-use mathlib.Core.Bool.{Bool}
-use mathlib.Core.Logic.{⊎_elim, inl}
+use mathlib.Core.Path.{◌≡◌}
 use mathlib.Core.List.{List}
-use Prim.Native.Nat.{ℕ, ◌+◌, ◌-◌, ◌≤◌, ◌<◌}
-use native.Mathlib.Nat.{max_comm, min_comm}
-use native.Mathlib.Omega.{arith}
-use borrow.Author.Rules.{rules}
-use lib.ListN.{length, get_or}
+use Prim.Native.Nat.{ℕ, ◌-◌, ◌≤◌, ◌<◌}
+use lib.ListN.{length}
 use Rattle.sets.specs.Closed.{Below}
-use Rattle.sets.specs.Steps.{Joins, Seen, Joined}
-use Rattle.sets.proofs.Pairs.{pair_next}
-use Rattle.gaps.specs.Gaps.{near, touch, Touch}
+use Rattle.sets.specs.Steps.{Joins, Seen}
+use Rattle.gaps.specs.Gaps.{Touch}
 use Rattle.gaps.proofs.join_row.Given as goal
 
 pub record Row (values : List ℕ) (gap : ℕ) (p : List ℕ) (i n : ℕ) (q : List ℕ) (j : ℕ) : Type 0 where

@@ -4,7 +4,6 @@ use Prim.Native.Nat.{ℕ, ◌-◌, ◌<◌, ◌≤◌}
 use native.Mathlib.Nat.{max-eq_left, max-eq_right, min-eq_left, min-eq_right, le_of_lt}
 use lib.Dec.{leb}
 use Rattle.gaps.specs.Gaps.{near}
-use borrow.Author.Rules.{rules}
 use Rattle.gaps.proofs.near.Goals as goal
 
 later : (a b gap : ℕ) → a < b → leb (b - a) gap ≡ near gap a b

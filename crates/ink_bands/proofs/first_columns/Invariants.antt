@@ -1,11 +1,7 @@
 -- `bands::first_columns` meets its contract: each band that is passed over has no column over the limit.
 use Prim.Native.Nat.{◌-◌, ◌≤◌}
-use native.Mathlib.Omega.{arith}
-use borrow.Author.Rules.{rules}
-use borrow.Author.Tests.{not-false}
 use Rattle.ink.specs.Ink.{ink_at}
 use Rattle.ink_bands.specs.Steps.{NoneOver}
-use Rattle.ink_bands.proofs.Banded.{none_joined}
 use Rattle.ink_bands.proofs.first_columns.Given as goal
 
 abbrev pub invariant-loop-k : goal.invariant-loop-k

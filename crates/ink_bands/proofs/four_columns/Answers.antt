@@ -1,13 +1,12 @@
 -- `bands::four_columns` meets its contract: after j turns each number is the ink of the first j places of its column.
 use mathlib.Core.Path.{◌≡◌, refl, ◌∙◌}
-use Prim.Native.Nat.{ℕ, ◌+◌, ◌-◌, ◌*◌, ◌≤◌, ◌<◌}
+use Prim.Native.Nat.{ℕ, ◌+◌, ◌*◌, ◌<◌}
 use mathlib.Core.List.{List}
 use native.Mathlib.Omega.{arith}
-use borrow.Author.Rules.{rules}
 use lib.ListN.{length}
 use Rattle.rects.specs.Rects.{width_of, height_of}
 use Rattle.rects.specs.declared.Rect.{Rect}
-use Rattle.ink.specs.Ink.{Ink, ink_at, many, column_ink}
+use Rattle.ink.specs.Ink.{Ink, ink_at, column_ink}
 use Rattle.ink.specs.Steps.{Readable}
 use Rattle.ink.proofs.Counts.{many_le, many_next, row_in_mask}
 use Rattle.ink_bands.proofs.four_columns.Invariants.{Tally}

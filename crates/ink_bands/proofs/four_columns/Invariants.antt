@@ -1,15 +1,7 @@
 -- `bands::four_columns` meets its contract: after j turns each number is the ink of the first j places of its column.
-use mathlib.Core.Path.{◌≡◌, refl, ◌∙◌}
-use Prim.Native.Nat.{ℕ, ◌+◌, ◌-◌, ◌*◌, ◌≤◌, ◌<◌}
-use mathlib.Core.List.{List}
-use native.Mathlib.Omega.{arith}
-use borrow.Author.Rules.{rules}
-use lib.ListN.{length}
-use Rattle.rects.specs.Rects.{width_of, height_of}
-use Rattle.rects.specs.declared.Rect.{Rect}
-use Rattle.ink.specs.Ink.{Ink, ink_at, many, column_ink}
-use Rattle.ink.specs.Steps.{Readable}
-use Rattle.ink.proofs.Counts.{many_le, many_next, row_in_mask}
+use mathlib.Core.Path.{◌≡◌}
+use Prim.Native.Nat.{ℕ, ◌+◌, ◌-◌, ◌≤◌}
+use Rattle.ink.specs.Ink.{Ink, ink_at, many}
 use Rattle.ink_bands.proofs.four_columns.Given as goal
 
 -- the first j places of column x from row y on have n ink

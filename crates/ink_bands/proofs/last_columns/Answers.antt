@@ -1,12 +1,8 @@
 -- `bands::last_columns` meets its contract: each band that is passed over has no column over the limit.
 use mathlib.Core.Path.{◌≡◌}
-use Prim.Native.Nat.{◌+◌, ◌-◌, ◌≤◌}
+use Prim.Native.Nat.{◌+◌, ◌-◌}
 use native.Mathlib.Omega.{arith}
-use borrow.Author.Rules.{rules}
-use borrow.Author.Tests.{not-false}
-use Rattle.rects.specs.Rects.{width_of}
 use Rattle.ink.specs.Ink.{ink_at}
-use Rattle.ink_bands.specs.Steps.{NoneOver}
 use Rattle.ink_bands.proofs.Banded.{none_joined}
 use Rattle.ink_bands.proofs.last_columns.Goals as goal
 

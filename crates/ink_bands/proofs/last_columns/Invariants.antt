@@ -1,13 +1,8 @@
 -- `bands::last_columns` meets its contract: each band that is passed over has no column over the limit.
-use mathlib.Core.Path.{◌≡◌}
-use Prim.Native.Nat.{◌+◌, ◌-◌, ◌≤◌}
-use native.Mathlib.Omega.{arith}
-use borrow.Author.Rules.{rules}
-use borrow.Author.Tests.{not-false}
+use Prim.Native.Nat.{◌≤◌}
 use Rattle.rects.specs.Rects.{width_of}
 use Rattle.ink.specs.Ink.{ink_at}
 use Rattle.ink_bands.specs.Steps.{NoneOver}
-use Rattle.ink_bands.proofs.Banded.{none_joined}
 use Rattle.ink_bands.proofs.last_columns.Given as goal
 
 abbrev pub invariant-loop-end : goal.invariant-loop-end

@@ -1,5 +1,4 @@
 -- `bands::none_over` meets its contract: each of the four columns was tested.
-use borrow.Author.Rules.{rules}
 use Rattle.ink.specs.Ink.{ink_at}
 use Rattle.ink_bands.proofs.Banded.{band_none}
 use Rattle.ink_bands.proofs.none_over.Goals as goal

@@ -1,17 +1,13 @@
 -- `lines::first_line` meets its contract: the first line over the limit from the one in hand on is the first of all.
-use mathlib.Core.Path.{◌≡◌, sym, ap, ◌∙◌}
+use mathlib.Core.Path.{◌≡◌}
 use mathlib.Core.Bool.{Bool}
 use mathlib.Core.List.{List}
 use Prim.Native.Nat.{ℕ, ◌-◌, ◌≤◌}
-use native.Mathlib.Omega.{arith}
-use borrow.Author.Rules.{rules}
 use lib.Ieee.{Float}
 use Rattle.rects.specs.declared.Rect.{Rect}
 use Rattle.ink.specs.Ink.{ink_at}
 use Rattle.ink.specs.Steps.{line_ink}
 use Rattle.ink.specs.Places.{over, first_from, first_place}
-use Rattle.ink.proofs.Places.{first_found, first_passed, first_none}
-use Rattle.ink_bands.proofs.Banded.{first_past}
 use Rattle.ink_lines.proofs.first_line.Given as goal
 
 abbrev pub test : List ℕ → ℕ → Rect → Bool → Float → ℕ → Bool

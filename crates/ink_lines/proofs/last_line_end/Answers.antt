@@ -1,15 +1,9 @@
 -- `lines::last_line_end` meets its contract: the last line over the limit before the one in hand is the last of all.
 use mathlib.Core.Path.{◌≡◌, refl, sym, ap, ◌∙◌}
-use mathlib.Core.Bool.{Bool}
-use mathlib.Core.List.{List}
-use Prim.Native.Nat.{ℕ, ◌-◌, ◌≤◌}
+use Prim.Native.Nat.{◌-◌}
 use native.Mathlib.Omega.{arith}
-use borrow.Author.Rules.{rules}
-use lib.Ieee.{Float}
-use Rattle.rects.specs.declared.Rect.{Rect}
-use Rattle.ink.specs.Ink.{ink_at}
-use Rattle.ink.specs.Steps.{lines_of, line_ink}
-use Rattle.ink.specs.Places.{over, last_end}
+use Rattle.ink.specs.Steps.{lines_of}
+use Rattle.ink.specs.Places.{over}
 use Rattle.ink.proofs.Places.{last_found, last_passed, last_none}
 use Rattle.ink_bands.proofs.Banded.{last_before}
 use Rattle.ink_lines.proofs.last_line_end.Invariants.{test}

@@ -1,17 +1,13 @@
 -- `lines::last_line_end` meets its contract: the last line over the limit before the one in hand is the last of all.
-use mathlib.Core.Path.{◌≡◌, refl, sym, ap, ◌∙◌}
+use mathlib.Core.Path.{◌≡◌}
 use mathlib.Core.Bool.{Bool}
 use mathlib.Core.List.{List}
-use Prim.Native.Nat.{ℕ, ◌-◌, ◌≤◌}
-use native.Mathlib.Omega.{arith}
-use borrow.Author.Rules.{rules}
+use Prim.Native.Nat.{ℕ, ◌≤◌}
 use lib.Ieee.{Float}
 use Rattle.rects.specs.declared.Rect.{Rect}
 use Rattle.ink.specs.Ink.{ink_at}
-use Rattle.ink.specs.Steps.{lines_of, line_ink}
+use Rattle.ink.specs.Steps.{line_ink}
 use Rattle.ink.specs.Places.{over, last_end}
-use Rattle.ink.proofs.Places.{last_found, last_passed, last_none}
-use Rattle.ink_bands.proofs.Banded.{last_before}
 use Rattle.ink_lines.proofs.last_line_end.Given as goal
 
 abbrev pub test : List ℕ → ℕ → Rect → Bool → Float → ℕ → Bool

@@ -1,5 +1,4 @@
 -- `lines::lines_of` meets its contract.
-use borrow.Author.Rules.{rules}
 use Rattle.ink_lines.proofs.lines_of.Goals as goal
 
 pub returns-then-rows : goal.returns-then-rows

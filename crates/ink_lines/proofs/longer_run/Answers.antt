@@ -1,5 +1,4 @@
 -- `lines::longer_run` meets its contract.
-use borrow.Author.Rules.{rules}
 use native.Mathlib.Numerals.{add-one}
 use Rattle.ink_lines.proofs.longer_run.Goals as goal
 

@@ -1,15 +1,9 @@
 -- `lines::longest` meets its contract: `run` is the run that ends at the line in hand, `best` the longest before it.
 use mathlib.Core.Path.{◌≡◌, sym, ap, ◌∙◌}
 use mathlib.Core.Bool.{Bool, cond}
-use mathlib.Core.List.{List}
-use Prim.Native.Nat.{ℕ, suc, ◌-◌, ◌≤◌}
+use Prim.Native.Nat.{suc}
 use native.Mathlib.Omega.{arith}
-use borrow.Author.Rules.{rules}
-use lib.Dec.{ltb}
-use Rattle.rects.specs.declared.Rect.{Rect}
-use Rattle.ink.specs.Ink.{ink_at}
-use Rattle.ink.specs.Steps.{line_ink}
-use Rattle.ink.specs.Places.{run_before, longest_run}
+use Rattle.ink.specs.Places.{longest_run}
 use Rattle.ink.proofs.Counts.{lines_le}
 use Rattle.ink.proofs.Runs.{run_none, longest_none, run_le, run_next, longest_next}
 use Rattle.ink_lines.proofs.longest.Invariants.{test}

@@ -1,17 +1,13 @@
 -- `lines::longest` meets its contract: `run` is the run that ends at the line in hand, `best` the longest before it.
-use mathlib.Core.Path.{◌≡◌, sym, ap, ◌∙◌}
-use mathlib.Core.Bool.{Bool, cond}
+use mathlib.Core.Path.{◌≡◌}
+use mathlib.Core.Bool.{Bool}
 use mathlib.Core.List.{List}
-use Prim.Native.Nat.{ℕ, suc, ◌-◌, ◌≤◌}
-use native.Mathlib.Omega.{arith}
-use borrow.Author.Rules.{rules}
+use Prim.Native.Nat.{ℕ, ◌-◌, ◌≤◌}
 use lib.Dec.{ltb}
 use Rattle.rects.specs.declared.Rect.{Rect}
 use Rattle.ink.specs.Ink.{ink_at}
 use Rattle.ink.specs.Steps.{line_ink}
 use Rattle.ink.specs.Places.{run_before, longest_run}
-use Rattle.ink.proofs.Counts.{lines_le}
-use Rattle.ink.proofs.Runs.{run_none, longest_none, run_le, run_next, longest_next}
 use Rattle.ink_lines.proofs.longest.Given as goal
 
 abbrev pub test : List ℕ → ℕ → Rect → Bool → ℕ → Bool

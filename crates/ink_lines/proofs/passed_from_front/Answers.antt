@@ -1,6 +1,5 @@
 -- `lines::passed_from_front` meets its contract: no row is passed over, and of columns those of whole bands.
 use native.Mathlib.Omega.{arith}
-use borrow.Author.Rules.{rules}
 use Rattle.ink_lines.proofs.passed_from_front.Goals as goal
 
 pub returns-then-rows : goal.returns-then-rows

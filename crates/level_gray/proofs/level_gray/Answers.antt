@@ -2,7 +2,6 @@
 use mathlib.Core.Path.{sym, ◌∙◌}
 use native.Mathlib.Omega.{arith}
 use Rattle.level_gray.proofs.Guards.{level_refused, level_accepted, ready_yes}
-use borrow.Author.Rules.{rules}
 use Rattle.level_gray.proofs.level_gray.Goals as goal
 
 pub returns-then-number-ne0 : goal.returns-then-number-ne0

@@ -1,9 +1,7 @@
 -- `levelling::level` meets its contract: the rows up to y are levelled.
-use Prim.Native.Nat.{◌-◌, ◌≤◌}
 use native.Mathlib.Omega.{arith}
 use Rattle.layout.specs.Level.{place_shows}
 use Rattle.shear_runs.specs.Steps.{All}
-use Rattle.levelling.specs.Steps.{LevelledArea}
 use Rattle.shear_runs.proofs.Areas.{rows_none, rows_then, all_shown}
 use Rattle.levelling.proofs.Settle.{ready_after}
 use Rattle.levelling.proofs.level.Goals as goal

@@ -1,12 +1,8 @@
 -- `levelling::level_columns` meets its contract: the columns are levelled in the rows from y0 up to y.
-use Prim.Native.Nat.{◌+◌, ◌-◌, ◌≤◌}
-use native.Mathlib.Omega.{arith}
+use Prim.Native.Nat.{◌-◌, ◌≤◌}
 use Rattle.layout.specs.Tables.{entry}
-use Rattle.layout.specs.Level.{place_shows}
 use Rattle.shear_runs.specs.Steps.{Columns}
 use Rattle.levelling.specs.Steps.{LevelledArea}
-use Rattle.shear_runs.proofs.Areas.{rows_none, rows_then, rows_fewer}
-use Rattle.levelling.proofs.Settle.{ready_after}
 use Rattle.levelling.proofs.level_columns.Given as goal
 
 abbrev pub invariant-loop-y : goal.invariant-loop-y

@@ -5,7 +5,6 @@ use native.Mathlib.Omega.{arith}
 use lib.ListN.{length}
 use Rattle.layout.proofs.Places.{small_product}
 use Rattle.levelling.proofs.Settle.{part_within, part_given, part_settled}
-use borrow.Author.Rules.{rules}
 use Rattle.levelling.proofs.level_part.Goals.{After-entry_at, Start}
 use Rattle.levelling.proofs.level_part.Goals as goal
 

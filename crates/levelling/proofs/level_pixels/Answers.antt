@@ -1,12 +1,12 @@
 -- `levelling::level_pixels` meets its contract: every place below k shows its own column.
 use mathlib.Core.Path.{◌≡◌, refl, ap, ◌∙◌}
 use mathlib.Core.List.{List}
-use Prim.Native.Nat.{ℕ, ◌+◌, ◌-◌, ◌≤◌, ◌<◌}
+use Prim.Native.Nat.{ℕ, ◌+◌, ◌≤◌, ◌<◌}
 use native.Mathlib.Decide.{ℕ_discrete}
 use native.Mathlib.Omega.{arith}
-use lib.ListN.{length, get_or, set, length-set}
+use lib.ListN.{length, set, length-set}
 use lib.Seq.{get_or-set_same, get_or-set_other}
-use Rattle.layout.specs.Level.{column_shows, page_shows}
+use Rattle.layout.specs.Level.{column_shows}
 use Rattle.levelling.proofs.level_pixels.Invariants.{Front}
 use Rattle.levelling.proofs.level_pixels.Goals.{In-loop-k}
 use Rattle.levelling.proofs.level_pixels.Goals as goal

@@ -1,12 +1,9 @@
 -- `levelling::level_pixels` meets its contract: every place below k shows its own column.
-use mathlib.Core.Path.{◌≡◌, refl, ap, ◌∙◌}
+use mathlib.Core.Path.{◌≡◌}
 use mathlib.Core.List.{List}
-use Prim.Native.Nat.{ℕ, ◌+◌, ◌-◌, ◌≤◌, ◌<◌}
-use native.Mathlib.Decide.{ℕ_discrete}
-use native.Mathlib.Omega.{arith}
-use lib.ListN.{length, get_or, set, length-set}
-use lib.Seq.{get_or-set_same, get_or-set_other}
-use Rattle.layout.specs.Level.{column_shows, page_shows}
+use Prim.Native.Nat.{ℕ, ◌+◌, ◌-◌, ◌<◌}
+use lib.ListN.{length, get_or}
+use Rattle.layout.specs.Level.{page_shows}
 use Rattle.levelling.proofs.level_pixels.Given as goal
 
 -- the first k places of a part show f

@@ -1,15 +1,9 @@
 -- `levelling::level_rows` meets its contract: the margins are white, and the page columns up to x are levelled.
-use mathlib.Core.Path.{◌∙◌}
 use Prim.Native.Nat.{◌-◌, ◌≤◌}
-use native.Mathlib.Omega.{arith}
 use lib.ListN.{length}
 use Rattle.layout.specs.Tables.{entry}
-use Rattle.layout.specs.Level.{place_shows}
 use Rattle.shear_runs.specs.Steps.{Columns}
 use Rattle.levelling.specs.Steps.{LevelledArea}
-use Rattle.shear_runs.proofs.Runs.{sheared_frame}
-use Rattle.shear_runs.proofs.Areas.{columns_none, columns_then}
-use Rattle.levelling.proofs.Settle.{ready_long, ready_after, band_whole}
 use Rattle.levelling.proofs.level_rows.Given as goal
 
 abbrev pub invariant-loop-x : goal.invariant-loop-x

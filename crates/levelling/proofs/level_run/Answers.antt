@@ -6,7 +6,6 @@ use native.Mathlib.Omega.{arith}
 use lib.ListN.{length, take, drop}
 use Rattle.layout.proofs.Places.{small_product, row_within}
 use Rattle.levelling.proofs.Paint.{off_page, on_page_lem}
-use borrow.Author.Rules.{rules}
 use Rattle.levelling.proofs.level_run.Goals.{Else-sides-row}
 use Rattle.levelling.proofs.level_run.Goals as goal
 

@@ -1,6 +1,5 @@
 -- `levelling::pad_row` meets its contract: both margins are written white.
 use Rattle.levelling.proofs.Settle.{white_margins}
-use borrow.Author.Rules.{rules}
 use Rattle.levelling.proofs.pad_row.Goals as goal
 
 pub returns : goal.returns

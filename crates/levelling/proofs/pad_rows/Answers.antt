@@ -1,9 +1,8 @@
 -- `levelling::pad_rows` meets its contract: the margins are white in the rows from y0 up to y.
-use mathlib.Core.Path.{◌≡◌, refl, ◌∙◌, subst}
-use Prim.Native.Nat.{ℕ, ◌+◌, ◌-◌, ◌≤◌}
+use mathlib.Core.Path.{refl, ◌∙◌, subst}
+use Prim.Native.Nat.{ℕ, ◌+◌, ◌≤◌}
 use native.Mathlib.Nat.{le_antisymm}
 use native.Mathlib.Omega.{arith}
-use lib.ListN.{length}
 use Rattle.shear_runs.specs.Steps.{InRows}
 use Rattle.levelling.specs.Steps.{Whitened, Margins}
 use Rattle.layout.proofs.Places.{small_product, row_within}

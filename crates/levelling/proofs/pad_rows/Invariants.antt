@@ -1,13 +1,9 @@
 -- `levelling::pad_rows` meets its contract: the margins are white in the rows from y0 up to y.
-use mathlib.Core.Path.{◌≡◌, refl, ◌∙◌, subst}
-use Prim.Native.Nat.{ℕ, ◌+◌, ◌-◌, ◌≤◌}
-use native.Mathlib.Nat.{le_antisymm}
-use native.Mathlib.Omega.{arith}
+use mathlib.Core.Path.{◌≡◌}
+use Prim.Native.Nat.{◌-◌, ◌≤◌}
 use lib.ListN.{length}
 use Rattle.shear_runs.specs.Steps.{InRows}
 use Rattle.levelling.specs.Steps.{Whitened, Margins}
-use Rattle.layout.proofs.Places.{small_product, row_within}
-use Rattle.levelling.proofs.Settle.{white_none, margins_more}
 use Rattle.levelling.proofs.pad_rows.Given as goal
 
 abbrev pub invariant-loop-y : goal.invariant-loop-y

@@ -3,8 +3,6 @@ use mathlib.Core.Path.{◌≡◌, refl, sym, ap, ◌∙◌}
 use mathlib.Core.Bool.{Bool, false, true, cond}
 use Prim.Native.Nat.{ℕ, suc}
 use native.Mathlib.Numerals.{add-one}
-use borrow.Author.Rules.{rules}
-use borrow.Author.Tests.{not-true, not-false}
 use Rattle.lines.proofs.next_line.Goals as goal
 
 goes_on : {b t : Bool} (n : ℕ) → b ≡ t → b ≡ false → n ≡ cond t (suc n) n

@@ -1,17 +1,11 @@
 -- `lines::number` meets its contract: after i turns the first i places have their line numbers.
-use mathlib.Core.Path.{◌≡◌, refl, sym, ap, ◌∙◌}
-use mathlib.Core.Bool.{cond}
-use mathlib.Core.List.{List, [], ◌∷◌, ◌++◌, map}
-use Prim.Native.Nat.{ℕ, zero, suc, ◌+◌, ◌-◌, ◌≤◌, ◌<◌, ◌^◌}
-use native.Mathlib.Omega.{arith}
-use native.Mathlib.Numerals.{add-one}
-use lib.ListN.{length, get_or, set, length-set}
+use mathlib.Core.Path.{◌≡◌}
+use mathlib.Core.List.{List, map}
+use Prim.Native.Nat.{ℕ, ◌-◌, ◌≤◌}
+use lib.ListN.{length, get_or}
 use Rattle.lists.specs.Lists.{below, written}
-use Rattle.lists.proofs.Written.{written_more}
-use Rattle.lists.proofs.Keep.{length_values, values_more}
-use Rattle.lines.specs.Lines.{sorted_positions, exceeds, line_at, lines_to}
-use Rattle.lines.specs.Steps.{Lined}
-use Rattle.lines.proofs.Sorted.{prior, line_next, line_low, lines_count}
+use Rattle.lines.specs.Lines.{sorted_positions, line_at}
+use Rattle.lines.proofs.Sorted.{prior}
 use Rattle.lines.proofs.number.Given as goal
 
 -- the first i places are numbered; `last` and `line` are those of the place before

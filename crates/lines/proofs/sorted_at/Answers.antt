@@ -3,7 +3,6 @@ use native.Mathlib.Omega.{arith}
 use borrow.Author.Rules.{scaled_Fits}
 use lib.ListN.{length, get_or}
 use Rattle.lines.proofs.Sorted.{place_within, position_at}
-use borrow.Author.Rules.{rules}
 use Rattle.lines.proofs.sorted_at.Goals as goal
 
 pub overflow_cast-index : goal.overflow_cast-index

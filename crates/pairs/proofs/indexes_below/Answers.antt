@@ -1,11 +1,8 @@
 -- `pairs::indexes_below` meets its contract. The invariant: every number that was passed is an index below n.
-use mathlib.Core.Path.{◌≡◌, sym}
-use mathlib.Core.Bool.{true}
-use Prim.Native.Nat.{ℕ, ◌-◌, ◌≤◌, ◌<◌}
+use mathlib.Core.Path.{sym}
 use native.Mathlib.Omega.{arith}
 use native.Mathlib.Nat.{lt_of_lt_of_le}
-use lib.Dec.{ltb}
-use lib.ListN.{length, get_or}
+use lib.ListN.{length}
 use borrow.Author.Count.{below_none, below_more}
 use borrow.Author.Rules.{scaled_Fits}
 use borrow.Author.Tests.{lt-ltb, le-ltb}

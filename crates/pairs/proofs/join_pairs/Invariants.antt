@@ -1,19 +1,11 @@
 -- `pairs::join_pairs` meets its contract: each turn joins one pair more, and all pairs are the whole rule.
-use mathlib.Core.Path.{◌≡◌, refl, ◌∙◌, subst}
-use mathlib.Core.Bool.{true, false≢true}
+use mathlib.Core.Path.{◌≡◌}
 use mathlib.Core.List.{List}
-use Prim.Native.Nat.{ℕ, ◌+◌, ◌-◌, ◌*◌, ◌/◌, ◌≤◌, ◌<◌, zero-le}
-use native.Mathlib.Omega.{arith}
-use native.Mathlib.Nat.{le_antisymm}
-use native.Mathlib.Numerals.{add-one-le}
+use Prim.Native.Nat.{ℕ, ◌-◌, ◌≤◌}
 use lib.ListN.{length}
-use borrow.Author.Rules.{scaled_Fits}
-use Rattle.lists.specs.Lists.{below, written}
 use Rattle.sets.specs.Closed.{Below}
-use Rattle.sets.specs.Steps.{Joins, Room}
-use Rattle.sets.proofs.Joins.{joins_none}
+use Rattle.sets.specs.Steps.{Joins}
 use Rattle.pairs.specs.Pairs.{Paired}
-use Rattle.pairs.proofs.Rule.{pair_joined}
 use Rattle.pairs.proofs.join_pairs.Given as goal
 
 pub record Joining (pairs : List ℕ) (n count : ℕ) (p q : List ℕ) (k : ℕ) : Type 0 where

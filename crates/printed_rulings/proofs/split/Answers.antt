@@ -1,15 +1,10 @@
 -- `printed_rulings::split` meets its contract: after k turns the printed and the faint ones of the first k rulings are listed.
-use mathlib.Core.Path.{◌≡◌, sym, ap, subst, ◌∙◌}
-use mathlib.Core.Bool.{Bool, true, false, not}
+use mathlib.Core.Path.{◌≡◌}
 use mathlib.Core.List.{List}
-use Prim.Native.Nat.{ℕ, ◌+◌, ◌-◌, ◌≤◌, ◌<◌, zero-le}
+use Prim.Native.Nat.{ℕ}
 use native.Mathlib.Omega.{arith}
-use lib.Ieee.{Float, nan}
-use lib.ListN.{length, get_or, set}
-use Rattle.lists.proofs.Gathered.{Gathered, gathered_none, gathered_low, gathered_one, gathered_past}
+use lib.Ieee.{Float}
 use Rattle.params.specs.declared.settings.RulingsParams.{RulingsParams}
-use Rattle.printed_rulings.specs.Printed.{printed}
-use Rattle.printed_rulings.specs.Steps.{SplitByContrast}
 use Rattle.printed_rulings.proofs.split.Invariants.{Progress, begin, done, low_dark, low_pale, on_dark, on_pale}
 use Rattle.printed_rulings.proofs.split.Goals.{then-is_printed, else-is_printed}
 use Rattle.printed_rulings.proofs.split.Goals as goal

@@ -1,5 +1,4 @@
 -- `sorted::arrange` meets its contract: the part of the keys that counts is sorted.
-use borrow.Author.Rules.{rules}
 use Rattle.sorted.proofs.Arranged.{arranged}
 use Rattle.sorted.proofs.arrange.Goals as goal
 

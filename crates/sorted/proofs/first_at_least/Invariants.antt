@@ -1,11 +1,7 @@
 -- `sorted::first_at_least` meets its contract: every key before `low` is below the bound, and from `high` on none is.
 use mathlib.Core.List.{List}
-use Prim.Native.Nat.{ℕ, ◌+◌, ◌-◌, ◌/◌, ◌≤◌, ◌<◌, zero-le}
-use native.Mathlib.Nat.{le_refl}
-use native.Mathlib.Omega.{arith}
-use lib.ListN.{get_or}
-use Rattle.sorted.specs.Steps.{key_at, InOrder, FirstAtLeast}
-use Rattle.sorted.proofs.Arranged.{at_or_behind}
+use Prim.Native.Nat.{ℕ, ◌-◌, ◌≤◌, ◌<◌}
+use Rattle.sorted.specs.Steps.{key_at}
 use Rattle.sorted.proofs.first_at_least.Given as goal
 
 pub record Bracket (keys order : List ℕ) (n bound low high : ℕ) : Type 0 where

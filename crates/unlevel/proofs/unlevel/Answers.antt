@@ -2,7 +2,6 @@
 use mathlib.Core.Path.{sym, ◌∙◌}
 use native.Mathlib.Omega.{arith}
 use Rattle.unlevel.proofs.Guards.{unlevel_refused, unlevel_accepted, archived_yes}
-use borrow.Author.Rules.{rules}
 use Rattle.unlevel.proofs.unlevel.Goals as goal
 
 pub returns-then-number-ne0 : goal.returns-then-number-ne0

@@ -1,10 +1,6 @@
 -- `unlevelling::unlevel` meets its contract: the rows up to y are back.
-use mathlib.Core.Path.{◌∙◌}
 use Prim.Native.Nat.{◌-◌, ◌≤◌}
-use native.Mathlib.Omega.{arith}
-use Rattle.layout.specs.Level.{pixel_in}
 use Rattle.shear_runs.specs.Steps.{All}
-use Rattle.shear_runs.proofs.Areas.{rows_none, rows_then, all_shown}
 use Rattle.unlevelling.specs.Steps.{BackArea}
 use Rattle.unlevelling.proofs.unlevel.Given as goal
 

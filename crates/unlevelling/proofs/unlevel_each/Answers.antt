@@ -1,10 +1,9 @@
 -- `unlevelling::unlevel_each` meets its contract: the columns from `from` up to x are back.
 use mathlib.Core.Path.{◌∙◌}
-use Prim.Native.Nat.{◌+◌, ◌-◌}
+use Prim.Native.Nat.{◌+◌}
 use native.Mathlib.Omega.{arith}
 use Rattle.layout.specs.Level.{pixel_in}
 use Rattle.shear_runs.proofs.Areas.{holds_in, columns_none, columns_then}
-use Rattle.unlevelling.specs.Steps.{BackArea, PageColumns}
 use Rattle.unlevelling.proofs.unlevel_each.Goals as goal
 
 pub loop-x-init : goal.loop-x-init

@@ -1,9 +1,5 @@
 -- `unlevelling::unlevel_each` meets its contract: the columns from `from` up to x are back.
-use mathlib.Core.Path.{◌∙◌}
-use Prim.Native.Nat.{◌+◌, ◌-◌}
-use native.Mathlib.Omega.{arith}
-use Rattle.layout.specs.Level.{pixel_in}
-use Rattle.shear_runs.proofs.Areas.{holds_in, columns_none, columns_then}
+use Prim.Native.Nat.{◌-◌}
 use Rattle.unlevelling.specs.Steps.{BackArea, PageColumns}
 use Rattle.unlevelling.proofs.unlevel_each.Given as goal
 

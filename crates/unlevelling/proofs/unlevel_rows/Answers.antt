@@ -1,11 +1,8 @@
 -- `unlevelling::unlevel_rows` meets its contract: the page columns up to x are back.
 use mathlib.Core.Path.{◌∙◌}
-use Prim.Native.Nat.{◌-◌, ◌≤◌}
 use native.Mathlib.Omega.{arith}
-use lib.ListN.{length}
 use Rattle.layout.specs.Level.{pixel_in}
 use Rattle.shear_runs.proofs.Areas.{holds_in, columns_none, columns_then}
-use Rattle.unlevelling.specs.Steps.{BackArea, PageColumns}
 use Rattle.unlevelling.proofs.unlevel_rows.Goals as goal
 
 pub loop-x-init : goal.loop-x-init

@@ -3,11 +3,10 @@ use mathlib.Core.Path.{◌≡◌, refl, ◌∙◌}
 use Prim.Native.Nat.{◌+◌, ◌-◌, ◌*◌, ◌≤◌, ◌<◌}
 use native.Mathlib.Omega.{arith}
 use lib.ListN.{length}
-use borrow.Author.Rules.{rules}
 use Rattle.layout.specs.Level.{level_row, level_column, pixel_in}
 use Rattle.shear_runs.proofs.Runs.{sheared_frame}
 use Rattle.shear_runs.proofs.Areas.{rows_none, rows_then, rows_fewer}
-use Rattle.unlevelling.specs.Steps.{PageLong, BackArea, PageColumns}
+use Rattle.unlevelling.specs.Steps.{PageLong, PageColumns}
 use Rattle.unlevelling.proofs.Places.{place_below, row_below, place_within, page_row, run_on_page, run_within, run_shows}
 use Rattle.unlevelling.proofs.unlevel_run.Goals.{After-place_of-start, In-loop-y, Start}
 use Rattle.unlevelling.proofs.unlevel_run.Goals as goal

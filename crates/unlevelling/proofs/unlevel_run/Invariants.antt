@@ -1,14 +1,6 @@
 -- `unlevelling::unlevel_run` meets its contract: in the rows from y0 up to y the run is back.
-use mathlib.Core.Path.{◌≡◌, refl, ◌∙◌}
-use Prim.Native.Nat.{◌+◌, ◌-◌, ◌*◌, ◌≤◌, ◌<◌}
-use native.Mathlib.Omega.{arith}
-use lib.ListN.{length}
-use borrow.Author.Rules.{rules}
-use Rattle.layout.specs.Level.{level_row, level_column, pixel_in}
-use Rattle.shear_runs.proofs.Runs.{sheared_frame}
-use Rattle.shear_runs.proofs.Areas.{rows_none, rows_then, rows_fewer}
-use Rattle.unlevelling.specs.Steps.{PageLong, BackArea, PageColumns}
-use Rattle.unlevelling.proofs.Places.{place_below, row_below, place_within, page_row, run_on_page, run_within, run_shows}
+use Prim.Native.Nat.{◌-◌, ◌≤◌}
+use Rattle.unlevelling.specs.Steps.{BackArea, PageColumns}
 use Rattle.unlevelling.proofs.unlevel_run.Given as goal
 
 abbrev pub invariant-loop-y : goal.invariant-loop-y

@@ -1,9 +1,9 @@
 -- `contrast::columns::darken` meets its contract: the first i entries are done, and the rest are as they were.
 use mathlib.Core.Path.{◌≡◌, refl}
-use Prim.Native.Nat.{◌-◌, ◌≤◌, ◌<◌}
+use Prim.Native.Nat.{◌<◌}
 use native.Mathlib.Omega.{arith}
 use lib.ListN.{length, length-set}
-use Rattle.contrast.proofs.Lines.{DarkenedTo, darkened_none, darkened_next}
+use Rattle.contrast.proofs.Lines.{darkened_none, darkened_next}
 use Rattle.contrast.proofs.columns.darken.Goals.{In-loop-i}
 use Rattle.contrast.proofs.columns.darken.Goals as goal
 

@@ -1,9 +1,8 @@
 -- `contrast::columns::darken` meets its contract: the first i entries are done, and the rest are as they were.
-use mathlib.Core.Path.{◌≡◌, refl}
-use Prim.Native.Nat.{◌-◌, ◌≤◌, ◌<◌}
-use native.Mathlib.Omega.{arith}
-use lib.ListN.{length, length-set}
-use Rattle.contrast.proofs.Lines.{DarkenedTo, darkened_none, darkened_next}
+use mathlib.Core.Path.{◌≡◌}
+use Prim.Native.Nat.{◌-◌, ◌≤◌}
+use lib.ListN.{length}
+use Rattle.contrast.proofs.Lines.{DarkenedTo}
 use Rattle.contrast.proofs.columns.darken.Given as goal
 
 abbrev pub invariant-loop-i : goal.invariant-loop-i

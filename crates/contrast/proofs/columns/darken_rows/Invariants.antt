@@ -1,10 +1,8 @@
 -- `contrast::columns::darken_rows` meets its contract: after k turns the entries are the darkest pixels of the first k rows.
-use mathlib.Core.Path.{◌≡◌, refl, ◌∙◌}
-use Prim.Native.Nat.{◌+◌, ◌-◌, ◌*◌, ◌≤◌}
-use native.Mathlib.Omega.{arith}
+use mathlib.Core.Path.{◌≡◌}
+use Prim.Native.Nat.{◌-◌, ◌≤◌}
 use lib.ListN.{length}
 use Rattle.contrast.specs.Steps.{Darkened}
-use Rattle.contrast.proofs.Lines.{darkened_more}
 use Rattle.contrast.proofs.columns.darken_rows.Given as goal
 
 abbrev pub invariant-loop-k : goal.invariant-loop-k

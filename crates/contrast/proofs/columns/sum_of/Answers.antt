@@ -1,6 +1,5 @@
 -- `contrast::columns::sum_of` meets its contract: after i turns `sum` is that of the first i values.
 use mathlib.Core.Path.{◌≡◌, refl, ap}
-use Prim.Native.Nat.{◌-◌, ◌*◌, ◌≤◌}
 use native.Mathlib.Omega.{arith}
 use mathlib.Core.List.{map}
 use lib.ListN.{get_or}

@@ -1,13 +1,10 @@
 -- `contrast::columns::sum_of` meets its contract: after i turns `sum` is that of the first i values.
-use mathlib.Core.Path.{◌≡◌, refl, ap}
+use mathlib.Core.Path.{◌≡◌}
 use Prim.Native.Nat.{◌-◌, ◌*◌, ◌≤◌}
-use native.Mathlib.Omega.{arith}
 use mathlib.Core.List.{map}
 use lib.ListN.{get_or}
 use Rattle.lists.specs.Lists.{below}
-use Rattle.lists.proofs.Keep.{values_more}
 use Rattle.math.specs.Sum.{total}
-use Rattle.contrast.proofs.Lines.{total_more}
 use Rattle.contrast.proofs.columns.sum_of.Given as goal
 
 abbrev pub invariant-loop-i : goal.invariant-loop-i

@@ -1,10 +1,9 @@
 -- `contrast::columns::sum_of_columns` meets its contract: `sum` is that of the first i columns.
 use mathlib.Core.Path.{◌≡◌, refl}
-use Prim.Native.Nat.{◌+◌, ◌-◌, ◌*◌, ◌≤◌, ◌<◌}
+use Prim.Native.Nat.{◌+◌, ◌*◌, ◌≤◌, ◌<◌}
 use native.Mathlib.Omega.{arith}
 use lib.ListN.{length}
 use Rattle.math.specs.Sum.{total}
-use Rattle.contrast.specs.Steps.{columns_darkest}
 use Rattle.contrast.proofs.Lines.{sum_split, columns_le, part_inside}
 use Rattle.contrast.proofs.columns.sum_of_columns.Goals.{After-least-part, After-sum_of_part-sum, In-loop-i}
 use Rattle.contrast.proofs.columns.sum_of_columns.Goals as goal

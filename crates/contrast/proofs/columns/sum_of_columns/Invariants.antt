@@ -1,11 +1,8 @@
 -- `contrast::columns::sum_of_columns` meets its contract: `sum` is that of the first i columns.
-use mathlib.Core.Path.{◌≡◌, refl}
-use Prim.Native.Nat.{◌+◌, ◌-◌, ◌*◌, ◌≤◌, ◌<◌}
-use native.Mathlib.Omega.{arith}
-use lib.ListN.{length}
+use mathlib.Core.Path.{◌≡◌}
+use Prim.Native.Nat.{◌-◌, ◌*◌, ◌≤◌}
 use Rattle.math.specs.Sum.{total}
 use Rattle.contrast.specs.Steps.{columns_darkest}
-use Rattle.contrast.proofs.Lines.{sum_split, columns_le, part_inside}
 use Rattle.contrast.proofs.columns.sum_of_columns.Given as goal
 
 abbrev pub invariant-loop-i : goal.invariant-loop-i

@@ -1,7 +1,6 @@
 -- `contrast::columns::sum_of_part` meets its contract: the entries are the darkest pixels of the columns.
 use mathlib.Core.Path.{◌∙◌}
 use native.Mathlib.Omega.{arith}
-use borrow.Author.Rules.{rules}
 use lib.ListN.{get_or-replicate}
 use Rattle.paper.specs.Pixels.{darkest_of}
 use Rattle.contrast.proofs.Lines.{columns_sum}

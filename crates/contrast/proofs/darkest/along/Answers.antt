@@ -1,5 +1,4 @@
 -- `contrast::darkest::along` meets its contract.
-use borrow.Author.Rules.{rules}
 use Rattle.contrast.proofs.darkest.along.Goals as goal
 
 pub returns-then-horizontal : goal.returns-then-horizontal

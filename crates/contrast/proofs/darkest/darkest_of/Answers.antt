@@ -1,6 +1,6 @@
 -- `contrast::darkest::darkest_of` meets its contract: after k turns `least` is the darkest of the first k pixels.
 use mathlib.Core.Path.{◌≡◌, refl, ap, ◌∙◌}
-use Prim.Native.Nat.{◌+◌, ◌-◌, ◌≤◌, min}
+use Prim.Native.Nat.{◌+◌, min}
 use native.Mathlib.Omega.{arith}
 use lib.ListN.{get_or}
 use Rattle.paper.specs.Pixels.{darkest_of}

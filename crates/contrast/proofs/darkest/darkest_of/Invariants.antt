@@ -1,13 +1,8 @@
 -- `contrast::darkest::darkest_of` meets its contract: after k turns `least` is the darkest of the first k pixels.
-use mathlib.Core.Path.{◌≡◌, refl, ap, ◌∙◌}
-use mathlib.Core.Logic.{⊎_elim}
-use Prim.Native.Nat.{◌+◌, ◌-◌, ◌≤◌, min}
-use native.Mathlib.Omega.{arith}
-use lib.ListN.{get_or}
+use mathlib.Core.Path.{◌≡◌}
+use Prim.Native.Nat.{◌-◌, ◌≤◌}
 use Rattle.paper.specs.Pixels.{darkest_of}
 use Rattle.paper.specs.Steps.{line}
-use Rattle.contrast.proofs.Lines.{darkest_more}
-use Rattle.paper.proofs.Pixels.{row_more}
 use Rattle.contrast.proofs.darkest.darkest_of.Given as goal
 
 abbrev pub invariant-loop-k : goal.invariant-loop-k

@@ -3,7 +3,6 @@ use mathlib.Core.Path.{◌∙◌}
 use Prim.Native.Nat.{◌+◌, ◌*◌, ◌<◌, ◌≤◌}
 use native.Mathlib.Omega.{arith}
 use lib.ListN.{length}
-use borrow.Author.Rules.{rules}
 use Rattle.paper.proofs.Pixels.{row_inside}
 use Rattle.contrast.proofs.Lines.{rows_inside, horizontal_sum, vertical_sum}
 use Rattle.contrast.proofs.darkest.darkest_sum.Goals.{Start}

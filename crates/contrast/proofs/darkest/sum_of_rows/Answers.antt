@@ -1,11 +1,10 @@
 -- `contrast::darkest::sum_of_rows` meets its contract: after i turns `sum` is that of the first i rows.
 use mathlib.Core.Path.{◌≡◌, refl}
-use Prim.Native.Nat.{◌+◌, ◌-◌, ◌*◌, ◌≤◌}
+use Prim.Native.Nat.{◌+◌, ◌*◌, ◌≤◌}
 use native.Mathlib.Omega.{arith}
 use lib.ListN.{length}
 use Rattle.math.specs.Sum.{total}
 use Rattle.paper.specs.Steps.{line}
-use Rattle.contrast.specs.Steps.{rows_darkest}
 use Rattle.contrast.proofs.Lines.{sum_more, darkest_le}
 use Rattle.contrast.proofs.darkest.sum_of_rows.Goals.{After-darkest_of, In-loop-i}
 use Rattle.contrast.proofs.darkest.sum_of_rows.Goals as goal

@@ -1,12 +1,8 @@
 -- `contrast::darkest::sum_of_rows` meets its contract: after i turns `sum` is that of the first i rows.
-use mathlib.Core.Path.{◌≡◌, refl}
-use Prim.Native.Nat.{◌+◌, ◌-◌, ◌*◌, ◌≤◌}
-use native.Mathlib.Omega.{arith}
-use lib.ListN.{length}
+use mathlib.Core.Path.{◌≡◌}
+use Prim.Native.Nat.{◌-◌, ◌*◌, ◌≤◌}
 use Rattle.math.specs.Sum.{total}
-use Rattle.paper.specs.Steps.{line}
 use Rattle.contrast.specs.Steps.{rows_darkest}
-use Rattle.contrast.proofs.Lines.{sum_more, darkest_le}
 use Rattle.contrast.proofs.darkest.sum_of_rows.Given as goal
 
 abbrev pub invariant-loop-i : goal.invariant-loop-i

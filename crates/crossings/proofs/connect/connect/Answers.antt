@@ -15,7 +15,6 @@ use Rattle.meeting.specs.declared.segment.Segment.{Segment}
 use Rattle.meeting.specs.Segments.{ruling_at}
 use Rattle.meeting.specs.Meeting.{touch, Touch}
 use Rattle.crossings.specs.Steps.{Connected}
-use borrow.Author.Rules.{rules}
 use Rattle.sorted.proofs.Arranged.{written_over}
 use Rattle.crossings.proofs.connect.connect.Goals as goal
 

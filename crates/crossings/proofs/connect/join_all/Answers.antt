@@ -1,16 +1,9 @@
 -- `connect::join_all` meets its contract: each turn tries one row more, and all rows are the whole rule.
-use mathlib.Core.Path.{◌≡◌, refl, ◌∙◌}
-use mathlib.Core.List.{List}
-use Prim.Native.Nat.{ℕ, ◌+◌, ◌-◌, ◌≤◌, ◌<◌, zero-le}
+use mathlib.Core.Path.{◌∙◌}
 use native.Mathlib.Omega.{arith}
 use lib.ListN.{length}
-use Rattle.lists.specs.Lists.{below, written}
-use Rattle.sets.specs.Closed.{Below}
-use Rattle.sets.specs.Steps.{Joins, Room}
-use Rattle.meeting.specs.declared.segment.Segment.{Segment}
 use Rattle.meeting.specs.Segments.{ruling_at}
-use Rattle.crossings.specs.Steps.{Tried}
-use Rattle.crossings.proofs.Crossing.{none_tried, all_tried}
+use Rattle.crossings.proofs.Crossing.{all_tried}
 use Rattle.crossings.proofs.connect.join_all.Invariants.{begun, turn}
 use Rattle.crossings.proofs.connect.join_all.Goals as goal
 

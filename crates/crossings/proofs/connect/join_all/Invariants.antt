@@ -10,7 +10,7 @@ use Rattle.sets.specs.Steps.{Joins, Room}
 use Rattle.meeting.specs.declared.segment.Segment.{Segment}
 use Rattle.meeting.specs.Segments.{ruling_at}
 use Rattle.crossings.specs.Steps.{Tried}
-use Rattle.crossings.proofs.Crossing.{none_tried, all_tried}
+use Rattle.crossings.proofs.Crossing.{none_tried}
 use Rattle.crossings.proofs.connect.join_all.Given as goal
 
 module _ (join : ℕ) (s : ℕ → Segment) where

@@ -3,7 +3,6 @@ use mathlib.Core.Path.{◌≡◌, sym, ap, ◌∙◌}
 use mathlib.Core.Bool.{Bool, true, false}
 use mathlib.Core.List.{List}
 use Prim.Native.Nat.{ℕ, ◌<◌}
-use borrow.Author.Rules.{rules}
 use lib.ListN.{get_or}
 use Rattle.sets.specs.Steps.{Joined, Parents}
 use Rattle.sets.proofs.Roots.{join_none, join_same}

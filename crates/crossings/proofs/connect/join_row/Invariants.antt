@@ -14,7 +14,7 @@ use Rattle.meeting.specs.declared.segment.Segment.{Segment}
 use Rattle.meeting.specs.Segments.{ruling_at, span_holds}
 use Rattle.crossings.specs.Steps.{first_centre, last_centre, RulingsOrdered, Tried}
 use Rattle.crossings.proofs.Crossing.{InRow, row_none, row_begin, row_next, row_end}
-use Rattle.crossings.proofs.Spans.{centre_small, touches_held, between, far_before, all_met}
+use Rattle.crossings.proofs.Spans.{touches_held, between, far_before, all_met}
 use Rattle.crossings.proofs.connect.join_row.Given as goal
 
 module _ (join : ℕ) (s : ℕ → Segment) (n : ℕ) (keys order : List ℕ) where

@@ -1,6 +1,5 @@
 -- `connect::key_of` meets its contract, by direction.
 use mathlib.Core.Path.{refl}
-use borrow.Author.Rules.{rules}
 use Rattle.crossings.proofs.connect.key_of.Goals as goal
 
 pub returns-then-a : goal.returns-then-a

@@ -1,12 +1,8 @@
 -- `connect::write_keys` meets its contract: one key more a turn.
-use mathlib.Core.Path.{◌≡◌, ap, ◌∙◌}
-use Prim.Native.Nat.{ℕ, ◌-◌}
 use native.Mathlib.Omega.{arith}
 use lib.ListN.{length}
-use Rattle.sorted.proofs.Writing.{Writing, write_begin, write_turn}
-use Rattle.meeting.specs.declared.segment.Segment.{Segment}
+use Rattle.sorted.proofs.Writing.{write_begin, write_turn}
 use Rattle.meeting.specs.Segments.{ruling_at}
-use Rattle.crossings.specs.Steps.{cross_key}
 use Rattle.crossings.proofs.connect.write_keys.Invariants.{read, ruling_key_lem}
 use Rattle.crossings.proofs.connect.write_keys.Goals as goal
 

@@ -1,9 +1,8 @@
 -- `connect::write_keys` meets its contract: one key more a turn.
 use mathlib.Core.Path.{◌≡◌, ap, ◌∙◌}
 use Prim.Native.Nat.{ℕ, ◌-◌}
-use native.Mathlib.Omega.{arith}
 use lib.ListN.{length}
-use Rattle.sorted.proofs.Writing.{Writing, write_begin, write_turn}
+use Rattle.sorted.proofs.Writing.{Writing}
 use Rattle.meeting.specs.declared.segment.Segment.{Segment}
 use Rattle.meeting.specs.Segments.{ruling_at}
 use Rattle.crossings.specs.Steps.{cross_key}

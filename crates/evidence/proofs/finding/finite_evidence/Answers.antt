@@ -1,7 +1,6 @@
 -- `finding::finite_evidence` meets its contract.
 use mathlib.Core.Path.{ap₂}
 use mathlib.Core.Bool.{◌&&◌}
-use borrow.Author.Rules.{rules}
 use Rattle.evidence.proofs.finding.finite_evidence.Goals as goal
 
 pub returns : goal.returns

@@ -7,7 +7,6 @@ use Rattle.evidence.specs.declared.finding.Kind.{Kind}
 use Rattle.evidence.specs.declared.finding.Kind.TheVariants.{Table, FreeRules, Grid, Fold}
 use Rattle.evidence.specs.declared.finding.Row.{Row}
 use Rattle.evidence.specs.Finding.{second_evidence, evidences_with, finite_evidence, all_finite, finite_finding}
-use borrow.Author.Rules.{rules}
 use Rattle.evidence.proofs.finding.is_finite.Goals as goal
 
 and_last : (a b : Bool) → a && b ≡ a && (b && true)

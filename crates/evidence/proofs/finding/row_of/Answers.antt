@@ -5,7 +5,6 @@ use lib.Ieee.{Float}
 use Rattle.evidence.specs.declared.finding.Finding.{Finding}
 use Rattle.evidence.specs.declared.finding.Row.{Row}
 use Rattle.evidence.specs.Finding.{row_with, no_evidence}
-use borrow.Author.Rules.{rules}
 use Rattle.evidence.proofs.finding.row_of.Goals as goal
 
 -- the row of a fold, its direction as a number

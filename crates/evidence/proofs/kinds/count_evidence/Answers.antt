@@ -1,5 +1,4 @@
 -- `kinds::count_evidence` meets its contract.
-use borrow.Author.Rules.{rules}
 use Rattle.evidence.proofs.kinds.count_evidence.Goals as goal
 
 pub returns : goal.returns

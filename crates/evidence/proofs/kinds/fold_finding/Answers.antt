@@ -7,7 +7,6 @@ use Rattle.evidence.specs.declared.finding.Evidence.{Evidence}
 use Rattle.evidence.specs.declared.finding.Kind.TheVariants.{Fold}
 use Rattle.evidence.specs.Score.{log_odds}
 use Rattle.evidence.specs.Kinds.{fold_finding}
-use borrow.Author.Rules.{rules}
 use Rattle.evidence.proofs.kinds.fold_finding.Goals as goal
 
 pub returns : goal.returns

@@ -2,7 +2,6 @@
 use Rattle.evidence.specs.declared.finding.Kind.TheVariants.{FreeRules}
 use Rattle.evidence.specs.Kinds.{free_finding}
 use Rattle.evidence.proofs.Scores.{made_of_two}
-use borrow.Author.Rules.{rules}
 use Rattle.evidence.proofs.kinds.free_finding.Goals as goal
 
 pub returns : goal.returns

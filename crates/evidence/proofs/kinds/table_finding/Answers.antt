@@ -3,7 +3,6 @@ use Rattle.math.proofs.Sums.{as_float}
 use Rattle.evidence.specs.declared.finding.Kind.TheVariants.{Table}
 use Rattle.evidence.specs.Kinds.{table_finding}
 use Rattle.evidence.proofs.Scores.{made_of_two}
-use borrow.Author.Rules.{rules}
 use Rattle.evidence.proofs.kinds.table_finding.Goals as goal
 
 pub int_to_float-cells : goal.int_to_float-cells

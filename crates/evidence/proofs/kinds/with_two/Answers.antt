@@ -1,7 +1,6 @@
 -- `kinds::with_two` meets its contract.
 use mathlib.Core.Path.{ap}
 use lib.Ieee.{Float}
-use borrow.Author.Rules.{rules}
 use Rattle.evidence.proofs.kinds.with_two.Goals as goal
 
 pub returns : goal.returns

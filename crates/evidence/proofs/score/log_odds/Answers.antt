@@ -4,7 +4,6 @@ use lib.Ieee.{Float, binary64, add}
 use Rattle.math.specs.Constants.{zero}
 use Rattle.math.specs.Select.{clamp_to}
 use Rattle.evidence.specs.Score.{log_odds}
-use borrow.Author.Rules.{rules}
 use Rattle.evidence.proofs.score.log_odds.Goals as goal
 
 pub returns : goal.returns

@@ -1,5 +1,4 @@
 -- `edges::bottom_band` meets its contract.
-use Rattle.std.proofs.Common.{rules}
 use Rattle.glyph_tests.proofs.edges.bottom_band.Goals as goal
 
 pub returns : goal.returns

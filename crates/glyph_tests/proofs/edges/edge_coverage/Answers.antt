@@ -1,5 +1,5 @@
 -- `edges::edge_coverage` meets its contract: the bands are rectangles inside the frame, and the least of their shares is its coverage.
-use Rattle.std.proofs.Common.{true, false, ap, ◌∙◌, rules}
+use Rattle.std.proofs.Common.{true, false, ap, ◌∙◌}
 use Rattle.rects.specs.declared.Rect.{Rect}
 use Rattle.ink.specs.Ink.{ink_at}
 use Rattle.glyph_tests.specs.Steps.{line_share}

@@ -1,5 +1,4 @@
 -- `edges::left_band` meets its contract.
-use Rattle.std.proofs.Common.{rules}
 use Rattle.glyph_tests.proofs.edges.left_band.Goals as goal
 
 pub returns : goal.returns

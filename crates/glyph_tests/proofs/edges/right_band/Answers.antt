@@ -1,5 +1,4 @@
 -- `edges::right_band` meets its contract.
-use Rattle.std.proofs.Common.{rules}
 use Rattle.glyph_tests.proofs.edges.right_band.Goals as goal
 
 pub returns : goal.returns

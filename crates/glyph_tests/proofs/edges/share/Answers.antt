@@ -1,5 +1,5 @@
 -- `edges::share` meets its contract.
-use Rattle.std.proofs.Common.{ℕ, ap₂, rules}
+use Rattle.std.proofs.Common.{ℕ, ap₂}
 use lib.Ieee.{binary64, div}
 use Rattle.math.specs.Sum.{whole}
 use Rattle.glyph_tests.specs.Steps.{line_share}

@@ -1,5 +1,4 @@
 -- `edges::top_band` meets its contract.
-use Rattle.std.proofs.Common.{rules}
 use Rattle.glyph_tests.proofs.edges.top_band.Goals as goal
 
 pub returns : goal.returns

@@ -1,5 +1,4 @@
 -- `found::test_frame` meets its contract: each way out is the test that it follows.
-use Rattle.std.proofs.Common.{rules}
 use Rattle.ink.specs.Ink.{ink_at}
 use Rattle.glyph_tests.proofs.Tests.{size_says, aspect_says, by_size, by_aspect, by_edges, by_ink, is_box}
 use Rattle.glyph_tests.proofs.found.test_frame.Goals as goal

@@ -1,5 +1,5 @@
 -- `found::test_glyph` meets its contract: the glyph box is passed over by its size, for lack of a frame, or by its frame.
-use Rattle.std.proofs.Common.{ap, ◌∙◌, rules}
+use Rattle.std.proofs.Common.{ap, ◌∙◌}
 use Rattle.ink.specs.Ink.{ink_at}
 use Rattle.glyph_tests.specs.Steps.{found_in}
 use Rattle.glyph_tests.proofs.Frames.{frameless, has_one, frame_readable}

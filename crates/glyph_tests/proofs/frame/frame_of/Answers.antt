@@ -1,5 +1,5 @@
 -- `frame::frame_of` meets its contract: the first line over the limit from each end.
-use Rattle.std.proofs.Common.{◌-◌, ◌<◌, ◌≤◌, arith, rules}
+use Rattle.std.proofs.Common.{◌<◌, ◌≤◌, arith}
 use Rattle.rects.specs.Rects.{width_of, height_of}
 use Rattle.ink.specs.Ink.{ink_at}
 use Rattle.glyph_tests.specs.Tests.{top_of, left_of}

@@ -1,5 +1,5 @@
 -- `inner::inner_half` meets its contract.
-use Rattle.std.proofs.Common.{ℕ, ◌+◌, ◌-◌, ◌/◌, ap, ◌∙◌, rules}
+use Rattle.std.proofs.Common.{ℕ, ◌+◌, ◌-◌, ◌/◌, ap, ◌∙◌}
 use Rattle.glyph_tests.proofs.inner.inner_half.Goals as goal
 
 pub returns : goal.returns

@@ -1,5 +1,5 @@
 -- `inner::inner_ink` meets its contract: the inner half can be read, and has a place at least.
-use Rattle.std.proofs.Common.{arith, rules}
+use Rattle.std.proofs.Common.{arith}
 use Rattle.ink.specs.Ink.{ink_at}
 use Rattle.ink.specs.Steps.{Readable}
 use Rattle.glyph_tests.proofs.Halves.{inner_readable, small_product, share_is}

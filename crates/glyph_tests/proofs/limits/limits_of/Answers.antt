@@ -1,5 +1,4 @@
 -- `limits::limits_of` meets its contract, field by field.
-use Rattle.std.proofs.Common.{rules}
 use lib.Ieee.{binary64, mul}
 use Rattle.glyph_tests.specs.Limits.{slack_of, box_limits_of}
 use Rattle.glyph_tests.proofs.limits.limits_of.Goals as goal

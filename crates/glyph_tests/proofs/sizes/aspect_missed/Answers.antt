@@ -1,5 +1,5 @@
 -- `sizes::aspect_missed` meets its contract.
-use Rattle.std.proofs.Common.{ap₂, rules}
+use Rattle.std.proofs.Common.{ap₂}
 use lib.Ieee.{Float, binary64, lt, mul}
 use Rattle.glyph_tests.specs.Tests.{aspect_missed}
 use Rattle.glyph_tests.proofs.sizes.aspect_missed.Goals as goal

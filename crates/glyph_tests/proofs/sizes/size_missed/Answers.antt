@@ -1,5 +1,4 @@
 -- `sizes::size_missed` meets its contract: the first test that holds decides.
-use Rattle.std.proofs.Common.{rules}
 use Rattle.glyph_tests.specs.Tests.{size_missed}
 use Rattle.glyph_tests.proofs.sizes.size_missed.Goals as goal
 

@@ -1,9 +1,7 @@
 -- `read::column_has_ink` meets its contract: no place that was passed has ink.
-use mathlib.Core.Path.{◌≡◌, sym, ◌∙◌}
-use mathlib.Core.Bool.{false}
-use Prim.Native.Nat.{ℕ, ◌+◌, ◌-◌, ◌≤◌, ◌<◌}
+use mathlib.Core.Path.{sym, ◌∙◌}
+use Prim.Native.Nat.{◌+◌}
 use native.Mathlib.Omega.{arith}
-use borrow.Author.Rules.{rules}
 use borrow.Author.Count.{below_none, below_more}
 use Rattle.rects.specs.Rects.{height_of}
 use Rattle.ink.specs.Ink.{ink_at, column_ink}

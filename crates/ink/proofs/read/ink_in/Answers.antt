@@ -1,8 +1,7 @@
 -- `read::ink_in` meets its contract: after j turns `n` is the ink of the first j rows.
 use mathlib.Core.Path.{◌≡◌, sym, ap, ◌∙◌}
-use Prim.Native.Nat.{◌-◌, ◌*◌, ◌≤◌}
+use Prim.Native.Nat.{◌≤◌}
 use native.Mathlib.Omega.{arith}
-use borrow.Author.Rules.{rules}
 use Rattle.rects.specs.Rects.{height_of}
 use Rattle.ink.specs.Ink.{ink_at, ink_in_rows}
 use Rattle.ink.proofs.Counts.{rows_none, rows_next, row_le}

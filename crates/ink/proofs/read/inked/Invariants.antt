@@ -1,12 +1,10 @@
 -- `read::inked` meets its contract: after i turns `n` is how many of the first i bytes are ink.
-use mathlib.Core.Path.{◌≡◌, refl, ap, ◌∙◌}
+use mathlib.Core.Path.{◌≡◌}
 use mathlib.Core.Bool.{not}
-use Prim.Native.Nat.{ℕ, ◌-◌, ◌≤◌}
-use native.Mathlib.Omega.{arith}
+use Prim.Native.Nat.{◌-◌, ◌≤◌}
 use lib.Dec.{eqb}
 use lib.ListN.{length, get_or}
 use Rattle.ink.specs.Ink.{many}
-use Rattle.ink.proofs.Counts.{many_le, many_next, one_le}
 use Rattle.ink.proofs.read.inked.Given as goal
 
 abbrev pub invariant-loop-i : goal.invariant-loop-i

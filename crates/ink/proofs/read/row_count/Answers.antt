@@ -1,8 +1,7 @@
 -- `read::row_count` meets its contract: the part of the mask holds the row's places and no others.
 use mathlib.Core.Path.{refl, ◌∙◌}
-use Prim.Native.Nat.{◌+◌, ◌-◌, ◌*◌, ◌≤◌}
+use Prim.Native.Nat.{◌+◌, ◌*◌, ◌≤◌}
 use native.Mathlib.Omega.{arith}
-use borrow.Author.Rules.{rules}
 use lib.ListN.{length}
 use Rattle.ink.proofs.Counts.{row_in_mask, span_long}
 use Rattle.ink.proofs.read.row_count.Goals.{Start}

@@ -1,13 +1,8 @@
 -- `read::row_has_ink` meets its contract: no place that was passed has ink.
-use mathlib.Core.Path.{◌≡◌, sym, ◌∙◌}
+use mathlib.Core.Path.{◌≡◌}
 use mathlib.Core.Bool.{false}
 use Prim.Native.Nat.{ℕ, ◌+◌, ◌-◌, ◌≤◌, ◌<◌}
-use native.Mathlib.Omega.{arith}
-use borrow.Author.Rules.{rules}
-use borrow.Author.Count.{below_none, below_more}
-use Rattle.rects.specs.Rects.{width_of}
-use Rattle.ink.specs.Ink.{ink_at, row_ink}
-use Rattle.ink.proofs.Counts.{row_in_mask, one_passes, none_passes}
+use Rattle.ink.specs.Ink.{ink_at}
 use Rattle.ink.proofs.read.row_has_ink.Given as goal
 
 abbrev pub invariant-loop-i : goal.invariant-loop-i

@@ -1,14 +1,14 @@
 -- `ends::joined` meets its contract: who stands before the first key or past the last can't join the end, and the others are asked.
 use mathlib.Core.Path.{◌≡◌, sym, ◌∙◌}
 use mathlib.Core.List.{List}
-use Prim.Native.Nat.{ℕ, ◌-◌, ◌<◌}
+use Prim.Native.Nat.{ℕ, ◌<◌}
 use native.Mathlib.Omega.{arith}
 use borrow.Author.Rules.{scaled_Fits}
 use lib.ListN.{length, get_or}
 use Rattle.sorted.specs.Steps.{FirstAtLeast}
 use Rattle.meeting.specs.Segments.{ruling_at}
 use Rattle.meeting.proofs.Rulings.{member_within}
-use Rattle.junctions.proofs.Searching.{Searched, search_begin, search_turn, search_stop, search_end, search_found}
+use Rattle.junctions.proofs.Searching.{search_begin, search_turn, search_stop, search_end, search_found}
 use Rattle.junctions.proofs.ends.joined.Goals as goal
 
 -- the bound as it was worked out

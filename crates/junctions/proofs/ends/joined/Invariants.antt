@@ -1,14 +1,7 @@
 -- `ends::joined` meets its contract: who stands before the first key or past the last can't join the end, and the others are asked.
-use mathlib.Core.Path.{◌≡◌, sym, ◌∙◌}
-use mathlib.Core.List.{List}
-use Prim.Native.Nat.{ℕ, ◌-◌, ◌<◌}
-use native.Mathlib.Omega.{arith}
-use borrow.Author.Rules.{scaled_Fits}
-use lib.ListN.{length, get_or}
-use Rattle.sorted.specs.Steps.{FirstAtLeast}
+use Prim.Native.Nat.{◌-◌}
 use Rattle.meeting.specs.Segments.{ruling_at}
-use Rattle.meeting.proofs.Rulings.{member_within}
-use Rattle.junctions.proofs.Searching.{Searched, search_begin, search_turn, search_stop, search_end, search_found}
+use Rattle.junctions.proofs.Searching.{Searched}
 use Rattle.junctions.proofs.ends.joined.Given as goal
 
 abbrev pub invariant-loop-k : goal.invariant-loop-k

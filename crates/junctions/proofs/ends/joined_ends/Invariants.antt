@@ -4,14 +4,12 @@ use mathlib.Core.Bool.{Bool}
 use mathlib.Core.List.{List}
 use Prim.Native.Nat.{ℕ, ◌+◌, ◌-◌, ◌*◌, ◌≤◌, ◌<◌}
 use native.Mathlib.Omega.{arith}
-use borrow.Author.Rules.{scaled_Fits}
 use lib.ListN.{length, get_or, drop}
 use Rattle.lists.specs.Lists.{one, keep}
 use Rattle.meeting.specs.declared.segment.Segment.{Segment}
 use Rattle.meeting.specs.Segments.{ruling_at}
 use Rattle.meeting.specs.Meeting.{end_joined, joined_ends}
 use Rattle.junctions.proofs.Joining.{kept_step, kept_end, one_le}
-use Rattle.meeting.proofs.Rulings.{member_within}
 use Rattle.junctions.proofs.ends.joined_ends.Given as goal
 
 module _ (join : ℕ) (s : ℕ → Segment) (set : List ℕ) where

@@ -6,7 +6,6 @@ use native.Mathlib.Omega.{arith}
 use lib.IntN.{pos}
 use lib.Ieee.{binary64, div, of_int}
 use lib.ListN.{length}
-use borrow.Author.Rules.{rules}
 use Rattle.math.proofs.Sums.{as_float}
 use Rattle.meeting.specs.declared.segment.Segment.{Segment}
 use Rattle.meeting.specs.Segments.{ruling_at}

@@ -1,14 +1,9 @@
 -- `ends::write_keys` meets its contract: one key more a turn.
-use mathlib.Core.Path.{◌≡◌, ap, ◌∙◌}
-use mathlib.Core.List.{List}
-use Prim.Native.Nat.{ℕ, ◌-◌}
 use native.Mathlib.Omega.{arith}
 use borrow.Author.Rules.{scaled_Fits}
-use lib.ListN.{length, get_or, set}
-use Rattle.sorted.proofs.Writing.{Writing, write_begin, write_turn}
-use Rattle.meeting.specs.declared.segment.Segment.{Segment}
+use lib.ListN.{length}
+use Rattle.sorted.proofs.Writing.{write_begin, write_turn}
 use Rattle.meeting.specs.Segments.{ruling_at}
-use Rattle.junctions.specs.Steps.{centre_key}
 use Rattle.meeting.proofs.Rulings.{member_within}
 use Rattle.junctions.proofs.ends.write_keys.Invariants.{member_key, read}
 use Rattle.junctions.proofs.ends.write_keys.Goals as goal

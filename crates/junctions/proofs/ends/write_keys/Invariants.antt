@@ -2,14 +2,11 @@
 use mathlib.Core.Path.{◌≡◌, ap, ◌∙◌}
 use mathlib.Core.List.{List}
 use Prim.Native.Nat.{ℕ, ◌-◌}
-use native.Mathlib.Omega.{arith}
-use borrow.Author.Rules.{scaled_Fits}
-use lib.ListN.{length, get_or, set}
-use Rattle.sorted.proofs.Writing.{Writing, write_begin, write_turn}
+use lib.ListN.{length, get_or}
+use Rattle.sorted.proofs.Writing.{Writing}
 use Rattle.meeting.specs.declared.segment.Segment.{Segment}
 use Rattle.meeting.specs.Segments.{ruling_at}
 use Rattle.junctions.specs.Steps.{centre_key}
-use Rattle.meeting.proofs.Rulings.{member_within}
 use Rattle.junctions.proofs.ends.write_keys.Given as goal
 
 module _ (s : ℕ → Segment) (set : List ℕ) where

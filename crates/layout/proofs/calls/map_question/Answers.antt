@@ -1,11 +1,9 @@
 -- `layout::calls::map_question` meets its contract: each return is the first "no".
 use mathlib.Core.Path.{◌≡◌, sym, ◌∙◌}
 use mathlib.Core.Bool.{true}
-use borrow.Author.Tests.{not-true, not-false}
 use Rattle.layout.specs.Sides.{sides_fit}
 use Rattle.layout.specs.Tables.{shears_long, shears_fit}
 use Rattle.layout.proofs.Answers.{sides_yes}
-use borrow.Author.Rules.{rules}
 use Rattle.layout.proofs.calls.map_question.Goals.{Else-not-sides_fit, Else-not-tables_fit, Else-not-tables_long}
 use Rattle.layout.proofs.calls.map_question.Goals as goal
 

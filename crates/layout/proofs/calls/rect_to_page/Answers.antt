@@ -6,7 +6,6 @@ use Prim.Native.Nat.{ℕ}
 use Rattle.layout.specs.declared.rect.PageRect.{PageRect}
 use Rattle.layout.specs.ToPage.{rect_to_page}
 use Rattle.layout.proofs.Guards.{kept_if_refused, mapped_yes}
-use borrow.Author.Rules.{rules}
 use Rattle.layout.proofs.calls.rect_to_page.Goals as goal
 
 abbrev values : PageRect → List ℕ

@@ -7,7 +7,6 @@ use Rattle.layout.specs.ToPage.{to_page}
 use Rattle.layout.specs.Call.{one_pixel}
 use Rattle.layout.proofs.Guards.{kept_if_refused, mapped_yes}
 use Rattle.layout.proofs.Pixels.{to_page_is}
-use borrow.Author.Rules.{rules}
 use Rattle.layout.proofs.calls.to_page.Goals as goal
 
 abbrev values : PagePlace → List ℤ

@@ -5,7 +5,6 @@ use mir.Syntax.{w64}
 use mir.ValLaws.{to_z-of_z}
 use Rattle.layout.specs.ToPage.{nearest}
 use Rattle.layout.proofs.Signed.{nearest_less}
-use borrow.Author.Rules.{rules}
 use Rattle.layout.proofs.page.clamped.Goals.{After-nearest}
 use Rattle.layout.proofs.page.clamped.Goals as goal
 

@@ -1,6 +1,5 @@
 -- `layout::page::difference` meets its contract: both numbers are small.
 use Rattle.layout.proofs.Signed.{difference_fits, difference_is}
-use borrow.Author.Rules.{rules}
 use Rattle.layout.proofs.page.difference.Goals as goal
 
 pub overflow_sub-result : goal.overflow_sub-result

@@ -1,7 +1,6 @@
 -- `layout::page::least` meets its contract: it is what its three choices are.
 use Rattle.layout.specs.ToPage.{lesser}
 use Rattle.layout.proofs.Signed.{choice_of_four}
-use borrow.Author.Rules.{rules}
 use Rattle.layout.proofs.page.least.Goals as goal
 
 pub returns : goal.returns

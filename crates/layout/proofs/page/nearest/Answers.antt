@@ -8,7 +8,6 @@ use lib.Signed.{non_neg}
 use mir.Syntax.{w64}
 use mir.Val.{of_z, to_z}
 use mir.ValLaws.{to_z-of_z}
-use borrow.Author.Rules.{rules}
 use Rattle.layout.specs.ToPage.{nearest}
 use Rattle.layout.proofs.Signed.{below, not_below, cast_whole, nearest_below, nearest_within, nearest_past}
 use Rattle.layout.proofs.page.nearest.Goals.{Else-n-side, Else-z-lt0}

@@ -3,7 +3,6 @@ use native.Mathlib.Omega.{arith}
 use Rattle.layout.specs.ToPage.{least, greatest}
 use Rattle.layout.proofs.Signed.{nearest_of_four}
 use Rattle.layout.proofs.Back.{rect_is}
-use borrow.Author.Rules.{rules}
 use Rattle.layout.proofs.page.rect_to_page.Goals as goal
 
 pub clamped-requires-2 : goal.clamped-requires-2

@@ -7,7 +7,6 @@ use Rattle.layout.specs.Tables.{entry}
 use Rattle.layout.specs.ToPage.{nearest}
 use Rattle.layout.proofs.Signed.{passed, passed_is, nearest_less}
 use Rattle.layout.proofs.Back.{place_is}
-use borrow.Author.Rules.{rules}
 use Rattle.layout.proofs.page.to_page.Goals.{After-difference-column, After-nearest-on_page}
 use Rattle.layout.proofs.page.to_page.Goals as goal
 

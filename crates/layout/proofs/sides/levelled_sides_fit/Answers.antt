@@ -1,7 +1,6 @@
 -- `layout::sides::levelled_sides_fit` meets its contract, side by side.
 use mathlib.Core.Path.{ap₂}
 use mathlib.Core.Bool.{◌&&◌}
-use borrow.Author.Rules.{rules}
 use Rattle.layout.proofs.sides.levelled_sides_fit.Goals as goal
 
 -- src/sides.rt:20:1

@@ -1,6 +1,5 @@
 -- `layout::sides::sides_fit` meets its contract, test by test.
 use Rattle.layout.specs.Sides.{sides_fit}
-use borrow.Author.Rules.{rules}
 use Rattle.layout.proofs.sides.sides_fit.Goals as goal
 
 -- src/sides.rt:27:1

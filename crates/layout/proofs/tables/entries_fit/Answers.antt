@@ -1,11 +1,8 @@
 -- `layout::tables::entries_fit` meets its contract: every entry below i fits, and one that does not decides.
-use mathlib.Core.Path.{◌≡◌, sym, ap, ◌∙◌}
-use mathlib.Core.Bool.{true}
-use Prim.Native.Nat.{◌≤◌, ◌-◌}
+use mathlib.Core.Path.{sym, ap, ◌∙◌}
 use native.Mathlib.Nat.{le_antisymm}
 use native.Mathlib.Omega.{arith}
 use lib.ListN.{length}
-use borrow.Author.Tests.{not-true, not-false}
 use Rattle.lists.specs.Lists.{every_below}
 use Rattle.lists.proofs.Every.{every_fails}
 use Rattle.layout.specs.Tables.{entry_fits, entries_fit}

@@ -2,7 +2,6 @@
 use mathlib.Core.Path.{ap}
 use lib.IntN.{pos, nat_abs}
 use lib.ListN.{get_or}
-use borrow.Author.Rules.{rules}
 use Rattle.layout.specs.Tables.{entry}
 use Rattle.layout.proofs.Entries.{whole_not_below}
 use Rattle.layout.proofs.Signed.{cast_whole}

@@ -7,7 +7,6 @@ use lib.ListN.{get_or}
 use native.Mathlib.Omega.{arith}
 use mir.Syntax.{w32}
 use mir.Val.{SFits}
-use borrow.Author.Rules.{rules}
 use Rattle.layout.proofs.Entries.{below_test, limit_test}
 use Rattle.layout.proofs.Signed.{below, not_below, cast_whole}
 use Rattle.layout.proofs.tables.entry_fits.Goals.{After-z-1, Else-z-lt0, Start}

@@ -1,7 +1,6 @@
 -- `layout::tables::tables_fit` meets its contract, table by table.
 use mathlib.Core.Path.{ap₂}
 use mathlib.Core.Bool.{◌&&◌}
-use borrow.Author.Rules.{rules}
 use Rattle.layout.proofs.tables.tables_fit.Goals as goal
 
 -- src/tables.rt:66:1

@@ -2,8 +2,6 @@
 use mathlib.Core.Path.{◌≡◌, sym, ap₂, ◌∙◌}
 use mathlib.Core.Bool.{true, ◌&&◌}
 use native.Mathlib.Omega.{arith}
-use borrow.Author.Rules.{rules}
-use borrow.Author.Tests.{not-true, not-false}
 use Rattle.layout.specs.Sides.{sides_fit, raster_fits}
 use Rattle.layout.specs.Tables.{shears_long}
 use Rattle.layout.proofs.Answers.{SidesAre, sides_yes}

@@ -1,6 +1,5 @@
 -- `listing::next` meets its contract.
 use native.Mathlib.Numerals.{add-one}
-use borrow.Author.Rules.{rules}
 use Rattle.meeting.proofs.listing.next.Goals as goal
 
 pub returns-then-more : goal.returns-then-more

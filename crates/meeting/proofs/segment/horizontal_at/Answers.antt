@@ -10,7 +10,6 @@ use Rattle.rects.specs.Rects.{rect_at}
 use Rattle.meeting.specs.declared.segment.Segment.{Segment}
 use Rattle.meeting.specs.Segments.{segment_of}
 use Rattle.meeting.proofs.Rulings.{sums_fit}
-use borrow.Author.Rules.{rules}
 use Rattle.meeting.proofs.segment.horizontal_at.Goals as goal
 
 horizontal_same : (r : Rect) (d : ℕ) → (segment_of r d).horizontal ≡ true → segment_of r 0 ≡ segment_of r d

@@ -9,7 +9,7 @@ use Rattle.rects.specs.declared.Rect.{Rect}
 use Rattle.rects.specs.Rects.{rect_at}
 use Rattle.meeting.specs.declared.segment.Segment.{Segment}
 use Rattle.meeting.specs.Segments.{segment_of, opposite, joins_end}
-use borrow.Author.Rules.{rules, scaled_Fits}
+use borrow.Author.Rules.{scaled_Fits}
 use Rattle.meeting.proofs.segment.joined_by.Goals as goal
 
 lies_by : (r : Rect) (d : ℕ) → (segment_of r d).horizontal ≡ eqb d 0

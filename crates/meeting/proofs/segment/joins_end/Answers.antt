@@ -6,7 +6,6 @@ use lib.Dec.{leb}
 use Rattle.meeting.specs.declared.segment.Segment.{Segment}
 use Rattle.meeting.specs.Segments.{opposite, span_holds, joins_end}
 use Rattle.rects.specs.Rects.{distance}
-use borrow.Author.Rules.{rules}
 use Rattle.meeting.proofs.segment.joins_end.Goals as goal
 
 parts : {y : Bool} {d : ℕ} (join e : ℕ) (a b : Segment) → opposite a b ≡ true → d ≡ distance (2 * e) b.centre2

@@ -1,12 +1,11 @@
 -- `segment::ruling_at` meets its contract: the chosen place has a rectangle and a direction.
 use mathlib.Core.Path.{ap, ◌∙◌}
 use native.Mathlib.Omega.{arith}
-use borrow.Author.Rules.{rules, scaled_Fits}
+use borrow.Author.Rules.{scaled_Fits}
 use lib.ListN.{length, get_or}
 use Rattle.rects.specs.declared.Rect.{Rect}
 use Rattle.meeting.specs.Segments.{segment_of}
 use Rattle.meeting.proofs.Rulings.{sums_fit}
-use borrow.Author.Rules.{rules}
 use Rattle.meeting.proofs.segment.ruling_at.Goals as goal
 
 pub overflow_cast-place : goal.overflow_cast-place

@@ -5,7 +5,6 @@ use mathlib.Core.Bool.{true, false}
 use borrow.Author.Tests.{eq-eqb, ne_eqb}
 use Rattle.rects.specs.declared.Rect.{Rect}
 use Rattle.meeting.specs.Segments.{segment_of}
-use borrow.Author.Rules.{rules}
 use Rattle.meeting.proofs.segment.segment_of.Goals as goal
 
 lying : (r : Rect) (d : ℕ) → d ≡ 0 → record { horizontal = true; start = r.x0; end = r.x1; centre2 = r.y0 + r.y1 } ≡ segment_of r d

@@ -1,5 +1,4 @@
 -- `paper::areas::beside` meets its contract: two strips of rows, or two of columns.
-use borrow.Author.Rules.{rules}
 use Rattle.paper.proofs.Sampling.{sampled_rows, sampled_columns}
 use Rattle.paper.proofs.areas.beside.Goals as goal
 

@@ -1,7 +1,5 @@
 -- `paper::areas::strips_of` meets its contract: the two runs of the law `beside_runs`.
-use Prim.Native.Nat.{◌-◌}
 use native.Mathlib.Omega.{arith}
-use borrow.Author.Rules.{rules}
 use Rattle.paper.proofs.Places.{beside_runs}
 use Rattle.paper.proofs.areas.strips_of.Goals as goal
 

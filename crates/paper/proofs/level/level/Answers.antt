@@ -1,13 +1,11 @@
 -- `paper::level::level` meets its contract: `at_least` is the number of samples of at least v, and fewer than half are larger.
-use mathlib.Core.Path.{◌≡◌, refl}
+use mathlib.Core.Path.{refl}
 use Prim.Native.Nat.{ℕ, ◌+◌, ◌-◌, ◌^◌, ◌≤◌, ◌<◌}
 use native.Mathlib.Nat.{sub-add_cancel}
 use native.Mathlib.Omega.{arith}
 use mathlib.Core.List.{List}
-use mathlib.Core.Logic.{◌⊎◌, inl, inr}
-use lib.Dec.{leb}
-use lib.ListN.{length, get_or}
-use Rattle.paper.specs.Steps.{many, Tallied}
+use mathlib.Core.Logic.{inl, inr}
+use lib.ListN.{get_or}
 use Rattle.paper.proofs.Levels.{count_le, brightest, above_zero, next_down, level_is}
 use Rattle.paper.proofs.level.level.Invariants.{Down}
 use Rattle.paper.proofs.level.level.Goals.{After-shared_slice_known-1, After-shared_slice_known-in-loop-at_least-1, In-loop-at_least}

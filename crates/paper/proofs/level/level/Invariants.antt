@@ -1,14 +1,11 @@
 -- `paper::level::level` meets its contract: `at_least` is the number of samples of at least v, and fewer than half are larger.
-use mathlib.Core.Path.{◌≡◌, refl}
-use Prim.Native.Nat.{ℕ, ◌+◌, ◌-◌, ◌^◌, ◌≤◌, ◌<◌}
-use native.Mathlib.Nat.{sub-add_cancel}
-use native.Mathlib.Omega.{arith}
+use mathlib.Core.Path.{◌≡◌}
+use Prim.Native.Nat.{ℕ, ◌+◌, ◌≤◌, ◌<◌}
 use mathlib.Core.List.{List}
-use mathlib.Core.Logic.{◌⊎◌, inl, inr}
+use mathlib.Core.Logic.{◌⊎◌}
 use lib.Dec.{leb}
-use lib.ListN.{length, get_or}
+use lib.ListN.{length}
 use Rattle.paper.specs.Steps.{many, Tallied}
-use Rattle.paper.proofs.Levels.{count_le, brightest, above_zero, next_down, level_is}
 use Rattle.paper.proofs.level.level.Given as goal
 
 -- what the counts say of any samples that have them

@@ -1,10 +1,8 @@
 -- `paper::samples::count_area` meets its contract: after k turns the first k rows are counted.
 use mathlib.Core.Path.{◌≡◌, refl, ◌∙◌}
-use Prim.Native.Nat.{◌+◌, ◌-◌, ◌*◌, ◌≤◌}
+use Prim.Native.Nat.{◌+◌, ◌*◌, ◌≤◌}
 use native.Mathlib.Omega.{arith}
 use lib.ListN.{length}
-use Rattle.paper.specs.Pixels.{run, pixels_in}
-use Rattle.paper.specs.Steps.{Counted}
 use Rattle.paper.proofs.Many.{counted_none}
 use Rattle.paper.proofs.Pixels.{row_inside}
 use Rattle.paper.proofs.Sampling.{room_left, area_more}

@@ -1,13 +1,9 @@
 -- `paper::samples::count_area` meets its contract: after k turns the first k rows are counted.
-use mathlib.Core.Path.{◌≡◌, refl, ◌∙◌}
-use Prim.Native.Nat.{◌+◌, ◌-◌, ◌*◌, ◌≤◌}
-use native.Mathlib.Omega.{arith}
+use mathlib.Core.Path.{◌≡◌}
+use Prim.Native.Nat.{◌-◌, ◌≤◌}
 use lib.ListN.{length}
 use Rattle.paper.specs.Pixels.{run, pixels_in}
 use Rattle.paper.specs.Steps.{Counted}
-use Rattle.paper.proofs.Many.{counted_none}
-use Rattle.paper.proofs.Pixels.{row_inside}
-use Rattle.paper.proofs.Sampling.{room_left, area_more}
 use Rattle.paper.proofs.samples.count_area.Given as goal
 
 abbrev pub invariant-loop-k : goal.invariant-loop-k

@@ -1,9 +1,9 @@
 -- `paper::samples::count_row` meets its contract: after i turns the first i pixels are counted.
 use mathlib.Core.Path.{◌≡◌, refl}
-use Prim.Native.Nat.{◌+◌, ◌-◌, ◌≤◌, ◌<◌}
+use Prim.Native.Nat.{◌+◌, ◌<◌}
 use native.Mathlib.Omega.{arith}
-use lib.ListN.{length, get_or, length-set}
-use Rattle.paper.specs.Steps.{line, Counted}
+use lib.ListN.{get_or, length-set}
+use Rattle.paper.specs.Steps.{line}
 use Rattle.paper.proofs.Many.{counted_none, counted_more}
 use Rattle.paper.proofs.Pixels.{row_more, counted_fits}
 use Rattle.paper.proofs.samples.count_row.Goals.{After-shared_slice_known-1}

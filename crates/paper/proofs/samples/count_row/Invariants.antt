@@ -1,11 +1,8 @@
 -- `paper::samples::count_row` meets its contract: after i turns the first i pixels are counted.
-use mathlib.Core.Path.{◌≡◌, refl}
-use Prim.Native.Nat.{◌+◌, ◌-◌, ◌≤◌, ◌<◌}
-use native.Mathlib.Omega.{arith}
-use lib.ListN.{length, get_or, length-set}
+use mathlib.Core.Path.{◌≡◌}
+use Prim.Native.Nat.{◌-◌, ◌≤◌}
+use lib.ListN.{length}
 use Rattle.paper.specs.Steps.{line, Counted}
-use Rattle.paper.proofs.Many.{counted_none, counted_more}
-use Rattle.paper.proofs.Pixels.{row_more, counted_fits}
 use Rattle.paper.proofs.samples.count_row.Given as goal
 
 abbrev pub invariant-loop-i : goal.invariant-loop-i

@@ -2,7 +2,6 @@
 use mathlib.Core.Path.{sym}
 use Prim.Native.Nat.{◌*◌}
 use native.Mathlib.Omega.{arith}
-use borrow.Author.Rules.{rules}
 use Rattle.paper.specs.Pixels.{samples}
 use Rattle.paper.specs.Steps.{pixels_of}
 use Rattle.paper.proofs.Many.{tallied}

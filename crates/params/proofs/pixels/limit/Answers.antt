@@ -9,7 +9,6 @@ use mir.Syntax.{w64}
 use mir.Val.{Fits, SFits}
 use mir.ValLaws.{to_z-of_z}
 use Rattle.math.specs.Steps.{UpTo}
-use borrow.Author.Rules.{rules}
 use Rattle.params.proofs.pixels.limit.Goals as goal
 
 signed : {z y : ℤ} → z ≡ y → UpTo (2 * 1000000 * 4096) y → SFits w64 z

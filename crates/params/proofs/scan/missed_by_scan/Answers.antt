@@ -1,6 +1,5 @@
 -- `params::scan::missed_by_scan` meets its contract: its one test is the question.
 use mathlib.Core.Path.{sym}
-use borrow.Author.Rules.{rules}
 use Rattle.params.proofs.scan.missed_by_scan.Goals as goal
 
 pub returns-then-dpi-xheight_in_range : goal.returns-then-dpi-xheight_in_range

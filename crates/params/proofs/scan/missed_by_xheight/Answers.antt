@@ -1,6 +1,5 @@
 -- `params::scan::missed_by_xheight` meets its contract: its one test is the question.
 use mathlib.Core.Path.{sym}
-use borrow.Author.Rules.{rules}
 use Rattle.params.proofs.scan.missed_by_xheight.Goals as goal
 
 pub returns-then-xheight_in_range : goal.returns-then-xheight_in_range

@@ -1,5 +1,4 @@
 -- `params::scan::xheight_in_range` meets its contract: its tests are the definition's.
-use borrow.Author.Rules.{rules}
 use Rattle.params.proofs.scan.xheight_in_range.Goals as goal
 
 pub returns : goal.returns

@@ -1,12 +1,9 @@
 -- `params::validate::all_bounded` meets its contract. The invariant: what was found so far and what is left of the list decide the whole list.
-use mathlib.Core.Path.{◌≡◌, refl, sym, ap, ◌∙◌}
-use mathlib.Core.Bool.{Bool, ◌&&◌}
-use Prim.Native.Nat.{◌≤◌, ◌-◌, ◌+◌}
-use native.Mathlib.Omega.{arith}
+use mathlib.Core.Path.{◌≡◌}
+use mathlib.Core.Bool.{◌&&◌}
+use Prim.Native.Nat.{◌≤◌, ◌-◌}
 use lib.ListN.{length, drop}
-use borrow.Author.Rules.{rules, scaled_Fits}
 use Rattle.params.specs.Settings.{all_of, bounded}
-use Rattle.params.proofs.Every.{every_step, every_done}
 use Rattle.params.proofs.validate.all_bounded.Given as goal
 
 abbrev pub invariant-loop-i : goal.invariant-loop-i

@@ -1,5 +1,4 @@
 -- `params::validate::bounded` meets its contract: its tests are the definition's.
-use borrow.Author.Rules.{rules}
 use Rattle.params.proofs.validate.bounded.Goals as goal
 
 pub returns : goal.returns

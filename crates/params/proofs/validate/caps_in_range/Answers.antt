@@ -1,7 +1,6 @@
 -- `params::validate::caps_in_range` meets its contract: its tests are the definition's.
 use mathlib.Core.Path.{sym, ap₂, ◌∙◌}
 use mathlib.Core.Bool.{◌&&◌, and-true}
-use borrow.Author.Rules.{rules}
 use Rattle.params.specs.Settings.{caps_in_range}
 use Rattle.params.proofs.validate.caps_in_range.Goals as goal
 

@@ -1,5 +1,4 @@
 -- `params::validate::floats_bounded` meets its contract: it hands over the 25 settings of the definition.
-use borrow.Author.Rules.{rules}
 use Rattle.params.specs.Settings.{floats_bounded}
 use Rattle.params.proofs.validate.floats_bounded.Goals as goal
 

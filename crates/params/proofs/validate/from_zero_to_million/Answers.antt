@@ -1,5 +1,4 @@
 -- `params::validate::from_zero_to_million` meets its contract: its tests are the definition's.
-use borrow.Author.Rules.{rules}
 use Rattle.params.proofs.validate.from_zero_to_million.Goals as goal
 
 pub returns : goal.returns

@@ -1,6 +1,5 @@
 -- `params::validate::missed_by_fusion` meets its contract: its one test is the question.
 use mathlib.Core.Path.{sym}
-use borrow.Author.Rules.{rules}
 use Rattle.params.proofs.validate.missed_by_fusion.Goals as goal
 
 pub returns-then-caps_in_range : goal.returns-then-caps_in_range

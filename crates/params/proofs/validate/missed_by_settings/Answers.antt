@@ -1,6 +1,5 @@
 -- `params::validate::missed_by_settings` meets its contract: 13 is asked where none of 7 to 11 is missed.
 use mathlib.Core.Path.{sym}
-use borrow.Author.Rules.{rules}
 use borrow.Author.Tests.{eq-eqb, ne_eqb}
 use Rattle.questions.proofs.FirstMissed.{in_two_parts}
 use Rattle.params.specs.Settings.{validate_questions, free_rules_questions}

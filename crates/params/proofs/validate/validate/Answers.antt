@@ -1,8 +1,6 @@
 -- `params::validate::validate` meets its contract: at each way out the questions before it were answered yes, and its own was answered no.
 use mathlib.Core.Path.{◌≡◌, refl, sym, ◌∙◌}
 use mathlib.Core.Bool.{true, false}
-use borrow.Author.Rules.{rules}
-use borrow.Author.Tests.{not-true, not-false}
 use lib.Ieee.{le}
 use Rattle.params.specs.declared.settings.RulingsParams.{RulingsParams}
 use Rattle.params.specs.Settings.{floats_bounded, lengths_not_negative, box_sizes_ordered, shares_in_range, minima_in_range}

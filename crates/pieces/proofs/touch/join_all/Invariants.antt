@@ -1,17 +1,9 @@
 -- `touch::join_all` meets its contract: each turn tries one row more of the order, and all rows are the whole rule.
-use mathlib.Core.Path.{◌≡◌, refl, ◌∙◌}
-use mathlib.Core.Logic.{inl, inr}
+use mathlib.Core.Path.{◌≡◌}
 use mathlib.Core.List.{List}
-use Prim.Native.Nat.{ℕ, ◌+◌, ◌-◌, ◌≤◌, ◌<◌, zero-le}
-use native.Mathlib.Omega.{arith}
+use Prim.Native.Nat.{ℕ, ◌+◌, ◌-◌, ◌≤◌}
 use lib.ListN.{length}
-use Rattle.lists.specs.Lists.{below, written}
-use Rattle.rects.specs.Rects.{count}
-use Rattle.sets.specs.Closed.{Below}
-use Rattle.sets.specs.Steps.{Joins, Room}
-use Rattle.sets.proofs.Sweeps.{between_begin, between_all, sweep_begin, sweep_end}
-use Rattle.pieces.specs.Pieces.{Touch}
-use Rattle.pieces.specs.Steps.{Sweep, SweptTo}
+use Rattle.pieces.specs.Steps.{SweptTo}
 use Rattle.pieces.proofs.touch.join_all.Given as goal
 
 pub record Rows (pieces : List ℕ) (across gap : ℕ) (order p : List ℕ) (n : ℕ) (q : List ℕ) (k : ℕ) : Type 0 where

@@ -3,7 +3,6 @@ use mathlib.Core.Path.{◌≡◌, sym, ap, ◌∙◌}
 use mathlib.Core.Bool.{Bool}
 use mathlib.Core.List.{List}
 use Prim.Native.Nat.{ℕ}
-use borrow.Author.Rules.{rules}
 use Rattle.sets.specs.Steps.{Joined}
 use Rattle.sets.proofs.Roots.{join_none, join_one_parent}
 use Rattle.pieces.specs.Pieces.{within}

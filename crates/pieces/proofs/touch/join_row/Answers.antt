@@ -1,17 +1,15 @@
 -- `touch::join_row` meets its contract: each turn tries one pair more, and where it stops early nothing behind can touch.
 use mathlib.Core.Path.{◌≡◌, refl, ap, ◌∙◌}
 use mathlib.Core.Bool.{Bool}
-use mathlib.Core.List.{List}
-use Prim.Native.Nat.{ℕ, ◌-◌, ◌^◌, ◌≤◌, ◌<◌}
+use Prim.Native.Nat.{ℕ, ◌^◌, ◌<◌}
 use native.Mathlib.Omega.{arith}
-use borrow.Author.Rules.{rules, scaled_Fits}
+use borrow.Author.Rules.{scaled_Fits}
 use lib.ListN.{length, get_or}
 use Rattle.rects.specs.declared.Rect.{Rect}
 use Rattle.rects.proofs.Questions.{has_numbers}
 use Rattle.pieces.specs.Pieces.{horizontal}
-use Rattle.pieces.specs.Steps.{Ordered, centre_in, end_in, last_key, SweptTo}
+use Rattle.pieces.specs.Steps.{Ordered, centre_in, end_in, last_key}
 use Rattle.pieces.proofs.Rows.{Head, pair_tried, row_stops, row_ends}
-use Rattle.pieces.proofs.touch.join_row.Invariants.{Row}
 use Rattle.pieces.proofs.touch.join_row.Goals as goal
 
 read : {r s : Rect} → Ordered s → r ≡ s → Ordered r

@@ -1,16 +1,9 @@
 -- `touch::join_row` meets its contract: each turn tries one pair more, and where it stops early nothing behind can touch.
-use mathlib.Core.Path.{◌≡◌, refl, ap, ◌∙◌}
-use mathlib.Core.Bool.{Bool}
+use mathlib.Core.Path.{◌≡◌}
 use mathlib.Core.List.{List}
-use Prim.Native.Nat.{ℕ, ◌-◌, ◌^◌, ◌≤◌, ◌<◌}
-use native.Mathlib.Omega.{arith}
-use borrow.Author.Rules.{rules, scaled_Fits}
-use lib.ListN.{length, get_or}
-use Rattle.rects.specs.declared.Rect.{Rect}
-use Rattle.rects.proofs.Questions.{has_numbers}
-use Rattle.pieces.specs.Pieces.{horizontal}
-use Rattle.pieces.specs.Steps.{Ordered, centre_in, end_in, last_key, SweptTo}
-use Rattle.pieces.proofs.Rows.{Head, pair_tried, row_stops, row_ends}
+use Prim.Native.Nat.{ℕ, ◌-◌, ◌≤◌, ◌<◌}
+use lib.ListN.{length}
+use Rattle.pieces.specs.Steps.{SweptTo}
 use Rattle.pieces.proofs.touch.join_row.Given as goal
 
 pub record Row (pieces : List ℕ) (across gap : ℕ) (order p : List ℕ) (k n : ℕ) (q : List ℕ) (l : ℕ) : Type 0 where

@@ -2,7 +2,6 @@
 use mathlib.Core.Path.{◌≡◌}
 use mathlib.Core.Bool.{Bool}
 use Prim.Native.Nat.{ℕ, ◌+◌, ◌^◌, ◌<◌}
-use borrow.Author.Rules.{rules}
 use Rattle.rects.specs.declared.Rect.{Rect}
 use Rattle.pieces.specs.Pieces.{horizontal}
 use Rattle.pieces.specs.Steps.{start_in, KeyOf}

@@ -1,22 +1,12 @@
 -- `keys::set_keys` meets its contract: one key more a turn.
-use mathlib.Core.Path.{◌≡◌, refl, sym, ap, ◌∙◌}
+use mathlib.Core.Path.{◌≡◌}
 use mathlib.Core.List.{List, map}
-use Prim.Native.Nat.{ℕ, ◌+◌, ◌-◌, ◌≤◌, ◌<◌, zero-le}
-use native.Mathlib.Omega.{arith}
-use borrow.Author.Rules.{scaled_Fits}
-use lib.ListN.{length, set, length-set}
-use Rattle.lists.specs.Lists.{In, below, written}
-use Rattle.rects.specs.declared.Rect.{Rect}
-use Rattle.rects.specs.Rects.{count}
-use Rattle.rects.specs.Steps.{AllInside, Places}
+use Prim.Native.Nat.{ℕ, ◌-◌, ◌≤◌}
+use lib.ListN.{length}
+use Rattle.lists.specs.Lists.{below, written}
 use Rattle.rects.specs.Around.{around}
-use Rattle.rects.proofs.Questions.{Inside}
 use Rattle.sets.specs.Listing.{members_of}
 use Rattle.ruling_lists.specs.Rulings.{ruling_key}
-use Rattle.ruling_lists.specs.Steps.{Parts}
-use Rattle.ruling_lists.proofs.Runs.{value_written}
-use Rattle.lists.proofs.Keep.{map_map}
-use Rattle.ruling_lists.proofs.Rectangles.{places_known, set_inside}
 use Rattle.ruling_lists.proofs.keys.set_keys.Given as goal
 
 -- the key of part k

@@ -5,18 +5,17 @@ use Prim.Native.Nat.{ℕ, ◌+◌, ◌-◌, ◌*◌, ◌≤◌, ◌<◌, zero-le
 use native.Mathlib.Nat.{not-suc-le-zero}
 use native.Mathlib.Omega.{arith}
 use borrow.Author.Count.{below_more}
-use borrow.Author.Rules.{scaled_Fits}
 use lib.Ieee.{Float}
 use lib.ListN.{length, set, length-set}
 use lib.Seq.{sets, length-sets}
-use Rattle.lists.specs.Lists.{In, below, concat, written}
+use Rattle.lists.specs.Lists.{below, concat, written}
 use Rattle.lists.proofs.Keep.{map_map, length_values, get_d_values}
-use Rattle.rects.specs.Rects.{count, numbers_of}
+use Rattle.rects.specs.Rects.{numbers_of}
 use Rattle.rects.specs.Around.{around}
 use Rattle.sets.specs.Listing.{members_of}
 use Rattle.ruling_lists.specs.declared.ruling.Ruling.{Ruling}
 use Rattle.ruling_lists.specs.Rulings.{direction_of, direction_number, ruling_of}
-use Rattle.ruling_lists.specs.Steps.{Parts, parts_of, NearOwn, RulingMade, Described, RoomForRulings}
+use Rattle.ruling_lists.specs.Steps.{parts_of, NearOwn, RulingMade, Described, RoomForRulings}
 use Rattle.ruling_lists.proofs.Runs.{total_four, value_written, run_written}
 use Rattle.ruling_lists.proofs.write.write_rulings.Given as goal
 

@@ -1,16 +1,11 @@
 -- `write::write_sets` meets its contract: one set more a turn.
-use mathlib.Core.Path.{◌≡◌, refl, ap, ◌∙◌}
+use mathlib.Core.Path.{◌≡◌}
 use mathlib.Core.List.{List, map}
-use Prim.Native.Nat.{ℕ, ◌+◌, ◌-◌, ◌^◌, ◌≤◌, ◌<◌, zero-le}
-use native.Mathlib.Omega.{arith}
-use borrow.Author.Rules.{scaled_Fits}
-use lib.ListN.{length, get_or, set, length-set}
-use lib.Seq.{sets}
+use Prim.Native.Nat.{ℕ, ◌-◌, ◌≤◌}
+use lib.ListN.{length, get_or}
 use Rattle.lists.specs.Lists.{below, concat, written}
-use Rattle.lists.proofs.Keep.{length_values}
 use Rattle.sets.specs.Listing.{members_of, ends_from}
-use Rattle.ruling_lists.specs.Steps.{in_order, RoomForSets}
-use Rattle.ruling_lists.proofs.Runs.{total, total_next, total_room, run_written, end_written}
+use Rattle.ruling_lists.proofs.Runs.{total}
 use Rattle.ruling_lists.proofs.write.write_sets.Given as goal
 
 -- the set that goes to place k

@@ -6,7 +6,6 @@ use Prim.Native.Nat.{ℕ, ◌*◌, ◌/◌, ◌^◌, ◌<◌}
 use native.Mathlib.Omega.{arith}
 use lib.Dec.{T}
 use lib.ListN.{length}
-use borrow.Author.Rules.{rules}
 use borrow.Author.Tests.{eq-eqb, ne_eqb}
 use Rattle.questions.specs.Questions.{Question, first_missed}
 use Rattle.questions.proofs.FirstMissed.{numbered, all_yes, in_two_parts}

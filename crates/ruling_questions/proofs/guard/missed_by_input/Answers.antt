@@ -4,8 +4,6 @@ use mathlib.Core.Bool.{Bool, true, false, cond}
 use mathlib.Core.List.{List, ◌∷◌}
 use Prim.Native.Nat.{ℕ}
 use native.Mathlib.Omega.{arith}
-use borrow.Author.Rules.{rules}
-use borrow.Author.Tests.{not-true, not-false}
 use Rattle.questions.specs.Questions.{Question, first_missed}
 use Rattle.params.specs.Scan.{xheight_in_range}
 use Rattle.params.specs.Settings.{settings_questions}

@@ -1,16 +1,9 @@
 -- `shape::collect` meets its contract: after k turns the positions of the first k members that have the direction stand in front.
-use mathlib.Core.Path.{◌≡◌, ap, ◌∙◌}
-use mathlib.Core.Bool.{Bool, cond}
-use mathlib.Core.List.{List}
-use Prim.Native.Nat.{ℕ, suc, ◌+◌, ◌-◌, ◌/◌, ◌≤◌, ◌<◌}
 use native.Mathlib.Omega.{arith}
-use borrow.Author.Rules.{rules, scaled_Fits}
-use lib.ListN.{length, get_or, set}
-use Rattle.meeting.specs.declared.segment.Segment.{Segment}
+use borrow.Author.Rules.{scaled_Fits}
+use lib.ListN.{length}
 use Rattle.meeting.specs.Segments.{ruling_at}
-use Rattle.shapes.specs.Shapes.{in_direction}
-use Rattle.shapes.specs.Steps.{Collected}
-use Rattle.meeting.proofs.Collecting.{Gathering, gather_begin, gather_turn, gather_end}
+use Rattle.meeting.proofs.Collecting.{gather_begin}
 use Rattle.meeting.proofs.Rulings.{member_within}
 use Rattle.shapes.proofs.shape.collect.Invariants.{done, turn}
 use Rattle.shapes.proofs.shape.collect.Goals as goal

@@ -3,15 +3,12 @@ use mathlib.Core.Path.{◌≡◌, ap, ◌∙◌}
 use mathlib.Core.Bool.{Bool, cond}
 use mathlib.Core.List.{List}
 use Prim.Native.Nat.{ℕ, suc, ◌+◌, ◌-◌, ◌/◌, ◌≤◌, ◌<◌}
-use native.Mathlib.Omega.{arith}
-use borrow.Author.Rules.{rules, scaled_Fits}
 use lib.ListN.{length, get_or, set}
 use Rattle.meeting.specs.declared.segment.Segment.{Segment}
 use Rattle.meeting.specs.Segments.{ruling_at}
 use Rattle.shapes.specs.Shapes.{in_direction}
 use Rattle.shapes.specs.Steps.{Collected}
-use Rattle.meeting.proofs.Collecting.{Gathering, gather_begin, gather_turn, gather_end}
-use Rattle.meeting.proofs.Rulings.{member_within}
+use Rattle.meeting.proofs.Collecting.{Gathering, gather_turn, gather_end}
 use Rattle.shapes.proofs.shape.collect.Given as goal
 
 module _ (h : Bool) (s : ℕ → Segment) (members keys : List ℕ) where

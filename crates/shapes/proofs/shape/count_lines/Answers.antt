@@ -12,7 +12,6 @@ use Rattle.lines.proofs.Sorted.{lines_few}
 use Rattle.meeting.specs.declared.segment.Segment.{Segment}
 use Rattle.shapes.specs.Shapes.{lines_of, members, positions}
 use Rattle.shapes.specs.Steps.{Collected, LinesCounted}
-use borrow.Author.Rules.{rules}
 use Rattle.shapes.proofs.shape.count_lines.Goals as goal
 
 module _ {h : Bool} {s : ℕ → Segment} {set keys : List ℕ} {n : ℕ} (C : Collected h s set keys n) where

@@ -10,7 +10,6 @@ use Rattle.shapes.specs.declared.limits.Limits.{Limits}
 use Rattle.meeting.specs.Segments.{ruling_at}
 use Rattle.shapes.specs.Shapes.{is_table}
 use Rattle.shapes.specs.Steps.{LinesCounted, Shaped}
-use borrow.Author.Rules.{rules}
 use Rattle.shapes.proofs.shape.shape_of.Goals as goal
 
 grouped : (a b c d : Bool) → a && b && c && d ≡ (a && b) && (c && d)

@@ -1,10 +1,5 @@
 -- `shear_runs::columns::run_end` meets its contract: up to i all columns have the entry of column `from`.
-use mathlib.Core.Path.{◌≡◌, sym, ◌∙◌}
-use Prim.Native.Nat.{◌-◌}
-use native.Mathlib.Omega.{arith}
-use lib.ListN.{length}
-use Rattle.layout.specs.Tables.{entry}
-use Rattle.shear_runs.specs.Steps.{Run}
+use mathlib.Core.Path.{sym, ◌∙◌}
 use Rattle.shear_runs.proofs.Runs.{run_one, run_more}
 use Rattle.shear_runs.proofs.columns.run_end.Goals as goal
 

@@ -1,11 +1,9 @@
 -- `shear_runs::columns::run_end` meets its contract: up to i all columns have the entry of column `from`.
-use mathlib.Core.Path.{◌≡◌, sym, ◌∙◌}
+use mathlib.Core.Path.{◌≡◌}
 use Prim.Native.Nat.{◌-◌}
-use native.Mathlib.Omega.{arith}
 use lib.ListN.{length}
 use Rattle.layout.specs.Tables.{entry}
 use Rattle.shear_runs.specs.Steps.{Run}
-use Rattle.shear_runs.proofs.Runs.{run_one, run_more}
 use Rattle.shear_runs.proofs.columns.run_end.Given as goal
 
 abbrev pub invariant-loop-i : goal.invariant-loop-i

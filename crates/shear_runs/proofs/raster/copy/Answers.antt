@@ -1,9 +1,8 @@
 -- `shear_runs::raster::copy` meets its contract: every place below i holds the byte of `from`; of a single byte, the first is all.
 use mathlib.Core.Path.{refl, sym, ◌∙◌}
-use Prim.Native.Nat.{◌-◌}
 use native.Mathlib.Omega.{arith}
-use lib.ListN.{length, length-set}
-use Rattle.shear_runs.proofs.Agree.{Agree, agree_none, agree_one, agree_more, agree_all}
+use lib.ListN.{length-set}
+use Rattle.shear_runs.proofs.Agree.{agree_none, agree_one, agree_more, agree_all}
 use Rattle.shear_runs.proofs.raster.copy.Goals as goal
 
 pub bounds-from-0 : goal.bounds-from-0

@@ -1,9 +1,8 @@
 -- `shear_runs::raster::whiten` meets its contract: every place below i holds 255.
 use mathlib.Core.Path.{◌≡◌, sym, ◌∙◌}
-use Prim.Native.Nat.{◌-◌}
 use native.Mathlib.Omega.{arith}
-use lib.ListN.{length, replicate, length-replicate, get_or-replicate}
-use Rattle.shear_runs.proofs.Agree.{Agree, agree_none, agree_more, agree_all}
+use lib.ListN.{length, length-replicate, get_or-replicate}
+use Rattle.shear_runs.proofs.Agree.{agree_none, agree_more, agree_all}
 use Rattle.shear_runs.proofs.raster.whiten.Goals.{At-loop-i}
 use Rattle.shear_runs.proofs.raster.whiten.Goals as goal
 

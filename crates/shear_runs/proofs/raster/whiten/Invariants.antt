@@ -1,9 +1,7 @@
 -- `shear_runs::raster::whiten` meets its contract: every place below i holds 255.
-use mathlib.Core.Path.{◌≡◌, sym, ◌∙◌}
 use Prim.Native.Nat.{◌-◌}
-use native.Mathlib.Omega.{arith}
-use lib.ListN.{length, replicate, length-replicate, get_or-replicate}
-use Rattle.shear_runs.proofs.Agree.{Agree, agree_none, agree_more, agree_all}
+use lib.ListN.{length, replicate}
+use Rattle.shear_runs.proofs.Agree.{Agree}
 use Rattle.shear_runs.proofs.raster.whiten.Given as goal
 
 abbrev pub invariant-loop-i : goal.invariant-loop-i
