@@ -3,45 +3,60 @@
 
 ghost use Rattle.std.specs.Prelude.{◌≡◌, ◌∷◌, []};
 
+pub fn one<'a, T>(a: &'a mut [T]) -> [&'a mut [T]; 1]
+    ensures { result ≡ a.entry ∷ [] }
+{
+    (a,).into()
+}
+
+pub fn two<'a, T>(a: &'a mut [T], b: &'a mut [T]) -> [&'a mut [T]; 2]
+    ensures { result ≡ a.entry ∷ b.entry ∷ [] }
+{
+    (a, b).into()
+}
+
+pub fn three<'a, T>(a: &'a mut [T], b: &'a mut [T], c: &'a mut [T]) -> [&'a mut [T]; 3]
+    ensures { result ≡ a.entry ∷ b.entry ∷ c.entry ∷ [] }
+{
+    (a, b, c).into()
+}
+
+pub fn four<'a, T>(
+    a: &'a mut [T],
+    b: &'a mut [T],
+    c: &'a mut [T],
+    d: &'a mut [T],
+) -> [&'a mut [T]; 4]
+    ensures { result ≡ a.entry ∷ b.entry ∷ c.entry ∷ d.entry ∷ [] }
+{
+    (a, b, c, d).into()
+}
+
+fn eight<'a, T>(
+    a: &'a mut [T],
+    b: &'a mut [T],
+    c: &'a mut [T],
+    d: &'a mut [T],
+    e: &'a mut [T],
+    f: &'a mut [T],
+    g: &'a mut [T],
+    h: &'a mut [T],
+) -> [&'a mut [T]; 8]
+    ensures { result ≡ a.entry ∷ b.entry ∷ c.entry ∷ d.entry ∷ e.entry ∷ f.entry ∷ g.entry ∷ h.entry ∷ [] }
+{
+    (a, b, c, d, e, f, g, h).into()
+}
+
 pub fn one_of_bytes<'a>(a: &'a mut [u8]) -> [&'a mut [u8]; 1]
     ensures { result ≡ a.entry ∷ [] }
 {
-    [a]
+    one(a)
 }
 
 pub fn one_of_keys<'a>(a: &'a mut [u64]) -> [&'a mut [u64]; 1]
     ensures { result ≡ a.entry ∷ [] }
 {
-    [a]
-}
-
-pub fn one<'a>(a: &'a mut [u32]) -> [&'a mut [u32]; 1]
-    ensures { result ≡ a.entry ∷ [] }
-{
-    [a]
-}
-
-pub fn two<'a>(a: &'a mut [u32], b: &'a mut [u32]) -> [&'a mut [u32]; 2]
-    ensures { result ≡ a.entry ∷ b.entry ∷ [] }
-{
-    [a, b]
-}
-
-pub fn three<'a>(a: &'a mut [u32], b: &'a mut [u32], c: &'a mut [u32]) -> [&'a mut [u32]; 3]
-    ensures { result ≡ a.entry ∷ b.entry ∷ c.entry ∷ [] }
-{
-    [a, b, c]
-}
-
-pub fn four<'a>(
-    a: &'a mut [u32],
-    b: &'a mut [u32],
-    c: &'a mut [u32],
-    d: &'a mut [u32],
-) -> [&'a mut [u32]; 4]
-    ensures { result ≡ a.entry ∷ b.entry ∷ c.entry ∷ d.entry ∷ [] }
-{
-    [a, b, c, d]
+    one(a)
 }
 
 pub fn three_of_floats<'a>(
@@ -51,7 +66,7 @@ pub fn three_of_floats<'a>(
 ) -> [&'a mut [f64]; 3]
     ensures { result ≡ a.entry ∷ b.entry ∷ c.entry ∷ [] }
 {
-    [a, b, c]
+    three(a, b, c)
 }
 
 pub fn eight_of_floats<'a>(
@@ -66,5 +81,5 @@ pub fn eight_of_floats<'a>(
 ) -> [&'a mut [f64]; 8]
     ensures { result ≡ a.entry ∷ b.entry ∷ c.entry ∷ d.entry ∷ e.entry ∷ f.entry ∷ g.entry ∷ h.entry ∷ [] }
 {
-    [a, b, c, d, e, f, g, h]
+    eight(a, b, c, d, e, f, g, h)
 }

@@ -11,10 +11,7 @@ ghost use Rattle.gaps.specs.Answers.{room_for};
 fn near(a: u32, b: u32, gap: u32) -> bool
     ensures { result ≡ near gap a b }
 {
-    if a < b {
-        return b - a <= gap;
-    }
-    a - b <= gap
+    a.abs_diff(b) <= gap
 }
 
 // Joins place i with every later place that it touches.
@@ -26,11 +23,9 @@ fn join_row(values: &[u32], gap: u32, parents: &mut [u32], i: usize)
 {
     let n = values.len();
     let value = values[i];
-    let mut j = i + 1;
-    while j < n {
+    for j in i + 1..n {
         let touch = near(value, values[j], gap);
         sets::join_if(parents, n, i, j, touch);
-        j += 1;
     }
 }
 
@@ -41,10 +36,8 @@ fn join_all(values: &[u32], gap: u32, parents: &mut [u32])
 {
     let n = values.len();
     sets::begin(parents, n);
-    let mut i = 0;
-    while i < n {
+    for i in 0..n {
         join_row(values, gap, parents, i);
-        i += 1;
     }
 }
 
@@ -55,7 +48,8 @@ pub fn room(n: usize, a: usize, b: usize, c: usize, d: usize) -> bool
     (n < 4294967296) & (n <= a) & (n <= b) & (n <= c) & (n <= d)
 }
 
-// 0 where a call is accepted and 1 where it is refused, and the number of sets.
+// 0 where a call is accepted and 1 where it is refused, and the number of sets. An `Option` of the number would say it; the
+// C interface needs this form.
 #[repr(C)]
 #[derive(Clone, Copy)]
 pub struct Answer {

@@ -9,10 +9,7 @@ ghost use Rattle.lines.specs.Steps.{Room, Ordered, Lined, Numbered};
 fn exceeds(limit: u64, previous: u64, position: u64) -> bool
     ensures { result ≡ exceeds limit previous position }
 {
-    if position <= previous {
-        return false;
-    }
-    limit < position - previous
+    limit < position.saturating_sub(previous)
 }
 
 // The position at place i of the sorted order.
@@ -36,13 +33,7 @@ fn next_line(line: Line, limit: u64, position: u64) -> Line
     requires { line.number + 1 < 2 ^ 32 }
     ensures { (result.number ≡ cond (exceeds limit line.last position) (suc line.number) line.number) × (result.last ≡ position) }
 {
-    if !exceeds(limit, line.last, position) {
-        return Line {
-            number: line.number,
-            last: position,
-        };
-    }
-    let number = line.number + 1;
+    let number = line.number + u32::from(exceeds(limit, line.last, position));
     Line {
         number,
         last: position,
@@ -62,11 +53,9 @@ fn number(positions: &[u64], order: &[u32], limit: u64, numbers: &mut [u32]) -> 
         number: 0,
         last: sorted_at(positions, order, 0),
     };
-    let mut i = 0;
-    while i < n {
+    for i in 0..n {
         line = next_line(line, limit, sorted_at(positions, order, i));
         numbers[i] = line.number;
-        i += 1;
     }
     line.number as usize + 1
 }

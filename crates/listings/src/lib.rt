@@ -28,9 +28,7 @@ fn thread(parents: &[u32], n: usize, next: &mut [u32])
     requires { Flat n parents.now × Unthreaded n next.old }
     ensures { Threaded n parents.now next.new }
 {
-    let mut i = n;
-    while i > 0 {
-        i -= 1;
+    for i in (0..n).rev() {
         let root = parents[i] as usize;
         if root != i {
             next[i] = next[root];
@@ -46,6 +44,7 @@ fn gather(next: &[u32], n: usize, members: &mut [u32], root: usize, at: usize) -
 {
     let mut i = root;
     let mut end = at;
+    // A `loop`, since it walks by links.
     loop {
         members[end] = i as u32;
         end += 1;
@@ -69,14 +68,12 @@ fn gather_all(
 {
     let mut at = 0;
     let mut count = 0;
-    let mut root = 0;
-    while root < n {
+    for root in 0..n {
         if parents[root] as usize == root {
             at = gather(next, n, members, root, at);
             ends[count] = at as u32;
             count += 1;
         }
-        root += 1;
     }
     count
 }

@@ -4,4 +4,3 @@ pub mod Keep
 pub mod Every
 pub mod Sizes
 pub mod Gathered
-pub mod Stores

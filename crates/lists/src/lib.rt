@@ -10,11 +10,7 @@ pub fn fill(list: &mut [u32], n: usize, value: u32)
     requires { n ≤ length list.old }
     ensures { list.new ≡ written (replicate n value) list.old }
 {
-    let mut i = 0;
-    while i < n {
-        list[i] = value;
-        i += 1;
-    }
+    list[..n].fill(value);
 }
 
 // The first n places hold the numbers from 0 on; the places past them keep their content.
@@ -22,10 +18,8 @@ pub fn numbers(list: &mut [u32], n: usize)
     requires { (n ≤ length list.old) × (n < 2 ^ 32) }
     ensures { list.new ≡ written (below n) list.old }
 {
-    let mut i = 0;
-    while i < n {
+    for i in 0..n {
         list[i] = i as u32;
-        i += 1;
     }
 }
 
@@ -34,10 +28,7 @@ pub fn append(xs: &[u32], list: &mut [u32], at: usize) -> usize
     requires { at + length xs.now ≤ length list.old }
     ensures { (list.new ≡ sets list.old at xs.now) × (result ≡ at + length xs.now) }
 {
-    let mut k = 0;
-    while k < xs.len() {
-        list[at + k] = xs[k];
-        k += 1;
-    }
-    at + xs.len()
+    let end = at + xs.len();
+    list[at..end].copy_from_slice(xs);
+    end
 }

@@ -13,14 +13,7 @@ use gaps::Answer;
 fn indexes_below(pairs: &[u32], n: usize) -> bool
     ensures { result ≡ indexes_below n pairs.now }
 {
-    let mut i = 0;
-    while i < pairs.len() {
-        if n <= pairs[i] as usize {
-            return false;
-        }
-        i += 1;
-    }
-    true
+    pairs.iter().all(|index| (*index as usize) < n)
 }
 
 // Joins each pair.
@@ -30,12 +23,10 @@ fn join_pairs(pairs: &[u32], n: usize, parents: &mut [u32])
 {
     sets::begin(parents, n);
     let count = pairs.len() / 2;
-    let mut k = 0;
-    while k < count {
+    for k in 0..count {
         let a = pairs[2 * k] as usize;
         let b = pairs[2 * k + 1] as usize;
         sets::join(parents, n, a, b);
-        k += 1;
     }
 }
 

@@ -1,4 +1,4 @@
-// Questions 7 to 13: the settings.
+// Questions 7 to 13: the settings. A question is a number, 0 for none, since the C interface returns it.
 ghost use Rattle.std.specs.Prelude.{◌≡◌};
 ghost use Rattle.questions.specs.Questions.{first_missed};
 ghost use Rattle.params.specs.Settings.{all_of, bounded, floats_bounded, lengths_not_negative};
@@ -14,17 +14,10 @@ fn bounded(x: f64) -> bool
     select::finite(x) & (select::abs(x) <= 1000000.0)
 }
 
-// No early way out, so that the invariant is one equation.
 fn all_bounded(values: &[f64]) -> bool
     ensures { result ≡ all_of bounded values.now }
 {
-    let mut all = true;
-    let mut i = 0;
-    while i < values.len() {
-        all = all & bounded(values[i]);
-        i += 1;
-    }
-    all
+    values.iter().all(|x| bounded(*x))
 }
 
 // Question 7.

@@ -10,19 +10,13 @@ ghost use Rattle.math.specs.Select.{absolute, negative, minimum_number, maximum_
 pub fn finite(x: f64) -> bool
     ensures { result ≡ Scale.finite x }
 {
-    x - x == 0.0
+    x.is_finite()
 }
 
 pub fn abs(x: f64) -> f64
     ensures { result ≡ absolute x }
 {
-    if x < 0.0 {
-        -x
-    } else if x == 0.0 {
-        0.0
-    } else {
-        x
-    }
+    x.abs()
 }
 
 // The sign bit of a number.
@@ -30,10 +24,10 @@ fn is_negative(x: f64) -> bool
     requires { is_nan x ≡ false }
     ensures { result ≡ negative x }
 {
-    0x8000_0000_0000_0000 <= f64::to_bits(x)
+    x.is_sign_negative()
 }
 
-// `f64::min`.
+// `f64::min`. The library's promises less: which of -0 and +0 it gives is left open.
 pub fn min(x: f64, y: f64) -> f64
     ensures { result ≡ minimum_number x y }
 {
@@ -52,7 +46,7 @@ pub fn min(x: f64, y: f64) -> f64
     }
 }
 
-// `f64::max`.
+// `f64::max`. The library's promises less: which of -0 and +0 it gives is left open.
 pub fn max(x: f64, y: f64) -> f64
     ensures { result ≡ maximum_number x y }
 {
@@ -71,7 +65,7 @@ pub fn max(x: f64, y: f64) -> f64
     }
 }
 
-// x clamped to ±limit: the bound when strictly past it.
+// x clamped to ±limit: the bound when strictly past it. The library's asks more: that -limit is at most limit.
 pub fn clamp(x: f64, limit: f64) -> f64
     ensures { result ≡ clamp_to limit x }
 {

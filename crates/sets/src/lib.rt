@@ -21,6 +21,7 @@ pub fn find(parents: &mut [u32], n: usize, index: usize) -> usize
 {
     let mut i = index;
     let mut up = parents[i] as usize;
+    // A `while`, since it walks by links.
     while up != i {
         let above = parents[up];
         parents[i] = above;
@@ -61,10 +62,8 @@ pub fn flatten(parents: &mut [u32], n: usize)
     requires { Parents n parents.old }
     ensures { parents.new ≡ written (map (root parents.old) (below n)) parents.old }
 {
-    let mut i = 0;
-    while i < n {
+    for i in 0..n {
         let up = parents[i] as usize;
         parents[i] = parents[up];
-        i += 1;
     }
 }

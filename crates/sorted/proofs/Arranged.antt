@@ -2,7 +2,7 @@
 use mathlib.Core.Path.{◌≡◌, ap, ◌∙◌}
 use mathlib.Core.Logic.{◌⊎◌, inl, inr}
 use mathlib.Core.List.{List, ◌++◌}
-use Prim.Native.Nat.{ℕ, ◌-◌, ◌^◌, ◌≤◌, ◌<◌}
+use Prim.Native.Nat.{ℕ, ◌^◌, ◌≤◌, ◌<◌}
 use native.Mathlib.Nat.{eq-or-lt_of_le}
 use native.Mathlib.Omega.{arith}
 use lib.ListN.{length, get_or, take, drop, get_or-append}
@@ -13,7 +13,7 @@ use Rattle.order.proofs.Computed.{sorted_by_lem, sorted_length}
 use Rattle.sorted.specs.Steps.{key_at, InOrder}
 
 module _ (n : ℕ) (keys order order' : List ℕ) (room : n ≤ length keys)
-    (e : order' ≡ Order.sorted_indexes (take (n - 0) keys) ++ drop (length (take (n - 0) keys)) order) where
+    (e : order' ≡ Order.sorted_indexes (take n keys) ++ drop (length (take n keys)) order) where
   front : List ℕ
   front = take n keys
 
@@ -26,9 +26,7 @@ module _ (n : ℕ) (keys order order' : List ℕ) (room : n ≤ length keys)
 
   content : order' ≡ Order.sorted_indexes front ++ drop n order
   unfolding front
-  content =
-      let same : n - 0 ≡ n = omega arith in
-      e ∙ ap (λ (k : ℕ). Order.sorted_indexes (take k keys) ++ drop (length (take k keys)) order) same ∙ ap (λ (k : ℕ). Order.sorted_indexes (take n keys) ++ drop k order) long
+  content = e ∙ ap (λ (k : ℕ). Order.sorted_indexes (take n keys) ++ drop k order) long
 
   entry : (k : ℕ) → k < n → get_or order' k 0 ≡ get_or (Order.sorted_indexes front) k 0
   entry k h = ap (λ (l : List ℕ). get_or l k 0) content ∙ get_or-append (Order.sorted_indexes front) (drop n order) 0 k (omega (arith, many))

@@ -9,7 +9,7 @@ ghost use Rattle.sorted.specs.Steps.{offset, SortRoom, InOrder, FirstAtLeast};
 pub fn offset(first: bool) -> u64
     ensures { (result ≡ offset first) × (result ≤ 2 ^ 34) }
 {
-    if first { 0 } else { 17179869184 }
+    if first { 0 } else { 1 << 34 }
 }
 
 // The indexes below n in the order of their keys, from the front of `order`, by way of `work`. What stands behind them is kept.
@@ -17,7 +17,7 @@ pub fn arrange(keys: &[u64], n: usize, order: &mut [u32], work: &mut [u32])
     requires { SortRoom n order.old work.old keys.now }
     ensures { InOrder n keys.now order.new × (drop n order.new ≡ drop n order.old) }
 {
-    sort::sort(&keys[0..n], order, work);
+    sort::sort(&keys[..n], order, work);
 }
 
 // The first place whose key is at least the bound; n where there is none.
@@ -27,6 +27,8 @@ pub fn first_at_least(keys: &[u64], order: &[u32], n: usize, bound: u64) -> usiz
 {
     let mut low = 0;
     let mut high = n;
+    // The library's `partition_point` asks for a test that may be called at any number, and `keys[i]` only at an index:
+    // with a `get` in its place it would be no plainer.
     while low < high {
         let middle = low + (high - low) / 2;
         if keys[order[middle] as usize] < bound {

@@ -1,3 +1,2 @@
 -- What the functions of sums cite.
-pub mod Halves
-pub mod SumAt
+pub mod Mapped

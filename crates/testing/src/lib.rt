@@ -1,5 +1,6 @@
 // Calls for the differential runs and the bench, which the product does not have: closed sets of
-// numbers within a gap and of given pairs (crates `gaps` and `pairs`), and the sort (crate `sort`).
+// numbers within a gap and of given pairs (crates `gaps` and `pairs`), and the sort (crate `sort`). The C interface needs
+// the answers as they are.
 #![tactic(auto)]
 
 ghost use Rattle.std.specs.Prelude.{length};

@@ -5,7 +5,7 @@ use mathlib.Core.List.{List, [], ◌∷◌, ◌++◌, map}
 use Prim.Native.Nat.{ℕ, zero, suc, ◌+◌, ◌≤◌, ◌<◌, ◌^◌}
 use native.Mathlib.Omega.{arith}
 use native.Mathlib.Numerals.{add-one}
-use lib.ListN.{length, get_or, set, length-set}
+use lib.ListN.{length, get_or, set}
 use Rattle.lists.specs.Lists.{below, written}
 use Rattle.lists.proofs.Written.{written_more}
 use Rattle.lists.proofs.Keep.{length_values, values_more}
@@ -20,34 +20,31 @@ module _ (positions : List ℕ) (limit : ℕ) (l : List ℕ) where
   unfolding lines_to
   none h = record { numbers = rw h refl; count = rw h refl }
 
-  begun : {n last : ℕ} → last ≡ get_or (sorted_positions positions) 0 0 → Walk positions limit n l l last 0 0
+  begun : {last : ℕ} → last ≡ get_or (sorted_positions positions) 0 0 → Walk positions limit l l last 0 0
   unfolding line_at
-  begun e = record { up_to = omega arith; long = refl; content = refl; last_is = e; line_is = refl }
+  begun e = record { content = refl; last_is = e; line_is = refl }
 
-  turn : {n : ℕ} {l' : List ℕ} {last line i position last' line' : ℕ} → Walk positions limit n l l' last line i → i < n → n ≤ length l
+  turn : {l' : List ℕ} {last line i position last' line' : ℕ} → Walk positions limit l l' last line i → i < length l
       → position ≡ get_or (sorted_positions positions) i 0 → line' ≡ cond (exceeds limit last position) (suc line) line → last' ≡ position
-      → Walk positions limit n l (set l' i line') last' line' (i + 1)
-  turn {l' = l'} {i = i} {line' = line'} W h room p e q =
+      → Walk positions limit l (set l' i line') last' line' (i + 1)
+  turn {l' = l'} {i = i} {line' = line'} W room p e q =
       let f = line_at limit (sorted_positions positions) in
       let same : line' ≡ f i = line_next limit (sorted_positions positions) i W.last_is W.line_is p refl e in
       let past : prior (i + 1) ≡ i = ap prior (add-one i) in
       record {
-        up_to = omega arith;
-        long = length-set l' i line' ∙ W.long;
         content =
-            written_more (map f (below i)) l line' W.content (length_values f i) (omega arith)
+            written_more (map f (below i)) l line' W.content (length_values f i) room
             (values_more f i ∙ ap (λ (v : ℕ). map f (below i) ++ (v ∷ [])) (sym same));
         last_is = q ∙ p ∙ ap (λ (k : ℕ). get_or (sorted_positions positions) k 0) (sym past);
         line_is = same ∙ ap f (sym past);
       }
 
-  line_fits : {n : ℕ} {l' : List ℕ} {last line i : ℕ} → Walk positions limit n l l' last line i → line ≤ prior i
+  line_fits : {l' : List ℕ} {last line i : ℕ} → Walk positions limit l l' last line i → line ≤ prior i
   line_fits {i = i} W = rw W.line_is (line_low limit (sorted_positions positions) (prior i))
 
-  done : {n : ℕ} {l' : List ℕ} {last line i : ℕ} → Walk positions limit n l l' last line i → n ≡ length positions → (n ≡ 0 → ⊥) → n ≤ i
+  done : {l' : List ℕ} {last line i : ℕ} → Walk positions limit l l' last line i → i ≡ length positions → (i ≡ 0 → ⊥)
       → Lined positions limit l l' (line + 1)
-  done {i = i} W e some h =
-      let end : i ≡ length positions = omega (arith, W.up_to) in
+  done {i = i} W end some =
       record {
         numbers = W.content ∙ ap (λ (m : ℕ). written (map (line_at limit (sorted_positions positions)) (below m)) l) end;
         count = add-one _ ∙ lines_count limit (sorted_positions positions) i (omega arith) W.line_is ∙ ap (lines_to limit (sorted_positions positions)) end;
@@ -84,33 +81,24 @@ pub offset_bounds-numbers-i : goal.offset_bounds-numbers-i
 offset_bounds-numbers-i c = omega (arith, c.loop-i-test.true, c.requires.0.small)
 
 pub bounds-numbers-i : goal.bounds-numbers-i
-bounds-numbers-i c = omega (arith, c.loop-i-test.true, c.requires.0.numbers, c.loop-i.invariant.long)
-
-pub overflow_add-i : goal.overflow_add-i
-overflow_add-i c = omega (arith, c.loop-i-test.true, c.requires.0.small)
-
-pub loop-i-smaller : goal.loop-i-smaller
-loop-i-smaller c = omega (arith, c.loop-i-test.true)
+bounds-numbers-i c = omega (arith, c.requires.0.numbers)
 
 pub loop-i-preserved : goal.loop-i-preserved
 loop-i-preserved c =
-    turn c.args.positions.now c.args.limit c.args.numbers.now c.loop-i.invariant c.loop-i-test.true c.requires.0.numbers c.sorted_at-in-loop-i.ensures c.next_line-line.ensures.0 c.next_line-line.ensures.1
+    turn c.args.positions.now c.args.limit c.args.numbers.now c.loop-i.invariant (omega (arith, c.requires.0.numbers)) c.sorted_at-in-loop-i.ensures c.next_line-line.ensures.0 c.next_line-line.ensures.1
 
 pub overflow_cast-result : goal.overflow_cast-result
 overflow_cast-result c =
     let low = line_fits c.args.positions.now c.args.limit c.args.numbers.now c.loop-i.invariant in
-    let few = at_most c.loop-i.i low c.loop-i.invariant.up_to c.requires.0.small in
+    let few = at_most c.loop-i.i low (omega arith) c.requires.0.small in
     omega (arith, few)
 
 pub overflow_add-result : goal.overflow_add-result
 overflow_add-result c =
     let low = line_fits c.args.positions.now c.args.limit c.args.numbers.now c.loop-i.invariant in
-    let few = at_most c.loop-i.i low c.loop-i.invariant.up_to c.requires.0.small in
+    let few = at_most c.loop-i.i low (omega arith) c.requires.0.small in
     omega (arith, few)
-
-pub shape_of-numbers : goal.shape_of-numbers
-shape_of-numbers c = c.loop-i.invariant.long
 
 pub returns : goal.returns
 returns c =
-    done c.args.positions.now c.args.limit c.args.numbers.now c.loop-i.invariant refl c.if-n-eq0.false c.loop-i-test.false
+    done c.args.positions.now c.args.limit c.args.numbers.now c.loop-i.invariant (omega arith) (omega arith)

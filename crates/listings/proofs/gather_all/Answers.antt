@@ -1,31 +1,31 @@
 -- `listings::gather_all` meets its contract: the classes with a root below i are listed, and the thread of the root i is its class.
 use mathlib.Core.Path.{◌≡◌, refl, sym, ap, ap₂, subst, ◌∙◌}
 use mathlib.Core.List.{List, [], ◌∷◌, ◌++◌}
-use Prim.Native.Nat.{ℕ, ◌+◌, ◌≤◌, ◌<◌, zero-le}
+use Prim.Native.Nat.{ℕ, ◌+◌, ◌≤◌, ◌<◌}
 use native.Mathlib.Nat.{zero-add}
 use native.Mathlib.Numerals.{add-one}
 use native.Mathlib.Omega.{arith}
-use lib.ListN.{length, set, length-set, length-append}
-use lib.Seq.{sets, length-sets}
+use lib.ListN.{length, set, length-append}
+use lib.Seq.{sets}
 use Rattle.lists.specs.Lists.{concat, written}
 use Rattle.lists.proofs.Written.{written_more, written_run}
 use Rattle.sets.specs.Listing.{ends_from}
 use Rattle.sets.specs.Steps.{class_of, entry, Flat, Threaded, Trail, Fitting, Appended, Gathered}
 use Rattle.sets.proofs.Sizes.{classes_to, classes_all, classes_none, classes_one, classes_past, classes_count, classes_fit, concat_one, length_ends, ends_one}
 use Rattle.listings.proofs.Trails.{threaded_rises, trail_class}
-use Rattle.listings.proofs.gather_all.Invariants.{Gathering, Partial}
+use Rattle.listings.proofs.gather_all.Invariants.{Partial}
 use Rattle.listings.proofs.gather_all.Goals.{In-loop-root}
 use Rattle.listings.proofs.gather_all.Goals.{then-parents-root, else-parents-root}
 use Rattle.listings.proofs.gather_all.Goals as goal
 
-start : {n : ℕ} {p m e : List ℕ} → Gathering n p m e m e 0 0 0
-start {n} {p} {m} {e} =
-    record {
-      up_to = zero-le;
-      part =
-          subst (λ (ss : List (List ℕ)). Partial ss m e m e 0 0) (sym (classes_none n (entry p)))
-          (record { place = refl; number = refl; members = refl; ends = refl; members_long = refl; ends_long = refl });
-    }
+-- the listing of the classes with a root below i
+abbrev Gathering : (n : ℕ) (p m₀ e₀ m e : List ℕ) (at count i : ℕ) → Type 0
+Gathering n p m₀ e₀ m e at count i = Partial (classes_to n (entry p) i) m₀ e₀ m e at count
+
+start : (n : ℕ) (p m e : List ℕ) → Gathering n p m e m e 0 0 0
+start n p m e =
+    subst (λ (ss : List (List ℕ)). Partial ss m e m e 0 0) (sym (classes_none n (entry p)))
+    (record { place = refl; number = refl; members = refl; ends = refl })
 
 -- one set more
 partial_one : {ss : List (List ℕ)} {m₀ e₀ m e m' : List ℕ} {at count end : ℕ} (s : List ℕ) → Partial ss m₀ e₀ m e at count → Appended m at s m' end
@@ -42,8 +42,6 @@ partial_one {ss} {m₀} {e₀} {m} {e} {m'} {at} {count} {end} s P A room more =
       ends =
           written_more (ends_from 0 ss) e₀ end P.ends (length_ends 0 ss ∙ sym P.number) (rw P.number more)
           (ends_one 0 ss s ∙ ap (λ (k : ℕ). ends_from 0 ss ++ (k ∷ [])) (zero-add (length (concat ss) + length s) ∙ sym past));
-      members_long = ap length A.content ∙ length-sets m at s ∙ P.members_long;
-      ends_long = length-set e count end ∙ P.ends_long;
     }
 
 -- what is known in a turn of the loop
@@ -52,35 +50,33 @@ record Turn (n : ℕ) (p next m₀ e₀ m e : List ℕ) (at count i : ℕ) : Typ
   threads : Threaded n p next
   members_room : n ≤ length m₀
   ends_room : n ≤ length e₀
+  members_kept : length m ≡ length m₀
+  ends_kept : length e ≡ length e₀
   so_far : Gathering n p m₀ e₀ m e at count i
   inside : i < n
 
 module _ {n : ℕ} {p next m₀ e₀ m e : List ℕ} {at count i : ℕ} (T : Turn n p next m₀ e₀ m e at count i) where
   fit : entry p i ≡ i → at + length (class_of n (entry p) i) ≤ n
-  fit h = rw T.so_far.part.place (classes_fit n (entry p) T.flat.fixed i h)
+  fit h = rw T.so_far.place (classes_fit n (entry p) T.flat.fixed i h)
 
   fitting : entry p i ≡ i → Fitting next i m at
   fitting h =
       record {
         met = class_of n (entry p) i;
         trail = trail_class T.flat T.threads i T.inside h;
-        fits = omega (arith, fit h, T.members_room, T.so_far.part.members_long);
+        fits = omega (arith, fit h, T.members_room, T.members_kept);
       }
 
   counted : count ≤ i
-  counted = rw T.so_far.part.number (classes_count n (entry p) i)
+  counted = rw T.so_far.number (classes_count n (entry p) i)
 
   listed : {m' : List ℕ} {end : ℕ} → entry p i ≡ i → ((t : List ℕ) → Trail next i t → Appended m at t m' end)
       → Gathering n p m₀ e₀ m' (set e count end) end (count + 1) (i + 1)
   listed {m'} {end} h A =
-      record {
-        up_to = omega arith;
-        part =
-            subst (λ (ss : List (List ℕ)). Partial ss m₀ e₀ m' (set e count end) end (count + 1))
-            (sym (ap (classes_to n (entry p)) (add-one i) ∙ classes_one n (entry p) i h))
-            (partial_one (class_of n (entry p) i) T.so_far.part (A (class_of n (entry p) i) (trail_class T.flat T.threads i T.inside h))
-            (omega (arith, classes_fit n (entry p) T.flat.fixed i h)) (omega (arith, classes_count n (entry p) i)));
-      }
+      subst (λ (ss : List (List ℕ)). Partial ss m₀ e₀ m' (set e count end) end (count + 1))
+      (sym (ap (classes_to n (entry p)) (add-one i) ∙ classes_one n (entry p) i h))
+      (partial_one (class_of n (entry p) i) T.so_far (A (class_of n (entry p) i) (trail_class T.flat T.threads i T.inside h))
+      (omega (arith, classes_fit n (entry p) T.flat.fixed i h)) (omega (arith, classes_count n (entry p) i)))
 
   -- the end of the set is at most n
   end_low : {m' : List ℕ} {end : ℕ} → entry p i ≡ i → ((t : List ℕ) → Trail next i t → Appended m at t m' end) → end ≤ n
@@ -88,26 +84,20 @@ module _ {n : ℕ} {p next m₀ e₀ m e : List ℕ} {at count i : ℕ} (T : Tur
 
   pass : (entry p i ≡ i → ⊥) → Gathering n p m₀ e₀ m e at count (i + 1)
   pass h =
-      record {
-        up_to = omega arith;
-        part =
-            subst (λ (ss : List (List ℕ)). Partial ss m₀ e₀ m e at count) (sym (ap (classes_to n (entry p)) (add-one i) ∙ classes_past n (entry p) i h))
-            T.so_far.part;
-      }
+      subst (λ (ss : List (List ℕ)). Partial ss m₀ e₀ m e at count) (sym (ap (classes_to n (entry p)) (add-one i) ∙ classes_past n (entry p) i h)) T.so_far
 
-done : {n : ℕ} {p m₀ e₀ m e : List ℕ} {at count i : ℕ} → Gathering n p m₀ e₀ m e at count i → n ≤ i → Gathered n p m₀ e₀ m e count
-done {n} {p} {m₀} {e₀} {m} {e} {at} {count} {i} G h =
-    let end : i ≡ n = omega (arith, G.up_to) in
-    let P = subst (λ (ss : List (List ℕ)). Partial ss m₀ e₀ m e at count) (ap (classes_to n (entry p)) end ∙ classes_all n (entry p)) G.part in
+done : {n : ℕ} {p m₀ e₀ m e : List ℕ} {at count i : ℕ} → Gathering n p m₀ e₀ m e at count i → i ≡ n → Gathered n p m₀ e₀ m e count
+done {n} {p} {m₀} {e₀} {m} {e} {at} {count} {i} G end =
+    let P = subst (λ (ss : List (List ℕ)). Partial ss m₀ e₀ m e at count) (ap (classes_to n (entry p)) end ∙ classes_all n (entry p)) G in
     record { count = P.number; members = P.members; ends = P.ends }
 
 -- where the two ways meet, each list and number is what its way left
-moved : {n : ℕ} {p m₀ e₀ m e m' e' : List ℕ} {at count at' count' i : ℕ} → Gathering n p m₀ e₀ m e at count i → m' ≡ m → e' ≡ e → at' ≡ at → count' ≡ count
-    → Gathering n p m₀ e₀ m' e' at' count' i
-moved G a b c d = rw (a, b, c, d) G
+moved : {ss : List (List ℕ)} {m₀ e₀ m e m' e' : List ℕ} {at count at' count' : ℕ} → Partial ss m₀ e₀ m e at count → m' ≡ m → e' ≡ e → at' ≡ at → count' ≡ count
+    → Partial ss m₀ e₀ m' e' at' count'
+moved P a b c d = rw (a, b, c, d) P
 
 pub loop-root-init : goal.loop-root-init
-loop-root-init c = start
+loop-root-init c = let a = c.args in start a.n a.parents.now a.members.now a.ends.now
 
 pub overflow_cast-parents : goal.overflow_cast-parents
 overflow_cast-parents c = omega (arith, c.shared_slice_known-in-loop-root-1.given c.loop-root.root)
@@ -122,6 +112,8 @@ turn_at c =
       threads = pre.1;
       members_room = pre.2;
       ends_room = pre.3;
+      members_kept = c.loop-root.auto.members;
+      ends_kept = c.loop-root.auto.ends;
       so_far = c.loop-root.invariant;
       inside = c.loop-root-test.true;
     }
@@ -151,11 +143,5 @@ loop-root-preserved c =
       | else-parents-root w ↦ moved (pass turn w.if-parents-root.false) w.members-is w.ends-is w.at-is w.count-is
     ]
 
-pub shape_of-members : goal.shape_of-members
-shape_of-members c = c.loop-root.invariant.part.members_long
-
-pub shape_of-ends : goal.shape_of-ends
-shape_of-ends c = c.loop-root.invariant.part.ends_long
-
 pub returns : goal.returns
-returns c = done c.loop-root.invariant c.loop-root-test.false
+returns c = done c.loop-root.invariant (omega arith)

@@ -1,7 +1,7 @@
 -- `listings::gather_all` meets its contract: the classes with a root below i are listed, and the thread of the root i is its class.
 use mathlib.Core.Path.{◌≡◌}
 use mathlib.Core.List.{List}
-use Prim.Native.Nat.{ℕ, ◌-◌, ◌≤◌}
+use Prim.Native.Nat.{ℕ}
 use lib.ListN.{length}
 use Rattle.lists.specs.Lists.{concat, written}
 use Rattle.sets.specs.Listing.{ends_from}
@@ -15,15 +15,6 @@ pub record Partial (ss : List (List ℕ)) (m₀ e₀ m e : List ℕ) (at count :
   pub number : count ≡ length ss
   pub members : m ≡ written (concat ss) m₀
   pub ends : e ≡ written (ends_from 0 ss) e₀
-  pub members_long : length m ≡ length m₀
-  pub ends_long : length e ≡ length e₀
-
-pub record Gathering (n : ℕ) (p m₀ e₀ m e : List ℕ) (at count i : ℕ) : Type 0 where
-  pub up_to : i ≤ n
-  pub part : Partial (classes_to n (entry p) i) m₀ e₀ m e at count
 
 abbrev pub invariant-loop-root : goal.invariant-loop-root
-invariant-loop-root l = Gathering l.n l.parents l.initial.members l.initial.ends l.members l.ends l.at l.count l.root
-
-abbrev pub decreases-loop-root : goal.decreases-loop-root
-decreases-loop-root l = l.n - l.root
+invariant-loop-root l = Partial (classes_to l.n (entry l.parents) l.root) l.initial.members l.initial.ends l.members l.ends l.at l.count

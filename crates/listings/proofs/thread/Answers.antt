@@ -7,46 +7,34 @@ use Prim.Native.Nat.{ℕ, suc, ◌-◌, ◌≤◌, ◌<◌}
 use native.Mathlib.Nat.{le_refl, eq-or-lt_of_le, lt-suc_self, le_step}
 use native.Mathlib.Decide.{ℕ_discrete}
 use native.Mathlib.Omega.{arith}
-use lib.ListN.{set, length-set}
+use lib.ListN.{length, set, length-set}
 use lib.Seq.{get_or-set_same, get_or-set_other}
 use Rattle.sets.specs.Steps.{found, none}
-use Rattle.sets.specs.Steps.{entry, Flat, First, Unthreaded, Threaded}
+use Rattle.sets.specs.Steps.{entry, Flat, First, Unthreaded}
 use Rattle.listings.proofs.thread.Invariants.{Threading}
 use Rattle.listings.proofs.thread.Goals as goal
 
-start : {n : ℕ} {p next : List ℕ} → Unthreaded n next → Threading n p next next n
-start {n} {p} {next} U =
+start : {n : ℕ} {p next : List ℕ} → Unthreaded n next → Threading n p next n
+start U =
     record {
-      up_to = le_refl n;
-      long = refl;
-      room = U.room;
       below = λ r l e. rw (U.clear r l) (none (λ m h g f. absurd (omega arith)));
       above = λ j h l. absurd (omega arith);
     }
-
-done : {n : ℕ} {p next₀ next : List ℕ} {i : ℕ} → Threading n p next₀ next i → i ≤ 0 → Threaded n p next
-done T h = record { room = T.room; after = λ j l. T.above j (omega arith) l }
 
 -- an index with another root is passed over
 skip : {n : ℕ} {p : List ℕ} {r i k : ℕ} → (entry p i ≡ r → ⊥) → First n p r (suc i) k → First n p r i k
 skip {n} {p} {r} {i} h (found {k} l m e clear) = found {k = k} (omega arith) m e (λ j a b f. ⊎_elim (λ (g : i ≡ j). h (rw g f)) (λ c. clear j c b f) (eq-or-lt_of_le a))
 skip {n} {p} {r} {i} h (none clear) = none (λ j a b f. ⊎_elim (λ (g : i ≡ j). h (rw g f)) (λ c. clear j c b f) (eq-or-lt_of_le a))
 
-module _ {n : ℕ} {p next₀ next : List ℕ} {i : ℕ} (F : Flat n p) (T : Threading n p next₀ next (suc i)) where
-  at_root : entry p i ≡ i → Threading n p next₀ next i
+module _ {n : ℕ} {p next : List ℕ} {i : ℕ} (F : Flat n p) (room : n ≤ length next) (inside : i < n) (T : Threading n p next (suc i)) where
+  at_root : entry p i ≡ i → Threading n p next i
   at_root e =
       record {
-        up_to = omega (arith, T.up_to);
-        long = T.long;
-        room = T.room;
         below = λ r l f. skip (λ g. omega arith) (T.below r (le_step l) f);
         above = λ j h l. ⊎_elim (λ (g : i ≡ j). rw (sym g, e) (T.below i (lt-suc_self i) e)) (λ g. T.above j g l) (eq-or-lt_of_le h);
       }
 
   module _ (other : entry p i ≡ i → ⊥) where
-    inside : i < n
-    inside = T.up_to
-
     low : entry p i < i
     low = let l = F.low i inside in omega arith
 
@@ -58,23 +46,20 @@ module _ {n : ℕ} {p next₀ next : List ℕ} {i : ℕ} (F : Flat n p) (T : Thr
     at_i =
         let l = low in
         get_or-set_other (set next i (entry next (entry p i))) (entry p i) i i 0 (λ e. other (sym e))
-        ∙ get_or-set_same next i (entry next (entry p i)) 0 (omega (arith, T.room, inside))
+        ∙ get_or-set_same next i (entry next (entry p i)) 0 (omega (arith, room, inside))
 
     at_r : entry next' (entry p i) ≡ i
     unfolding next'
-    at_r = get_or-set_same (set next i (entry next (entry p i))) (entry p i) i 0 (simp length-set (omega (arith, T.room, inside, low)))
+    at_r = get_or-set_same (set next i (entry next (entry p i))) (entry p i) i 0 (simp length-set (omega (arith, room, inside, low)))
 
     at_other : (j : ℕ) → (j ≡ i → ⊥) → (j ≡ entry p i → ⊥) → entry next' j ≡ entry next j
     unfolding next'
     at_other j a b = get_or-set_other (set next i (entry next (entry p i))) (entry p i) j i 0 b ∙ get_or-set_other next i j (entry next (entry p i)) 0 a
 
-    threaded : Threading n p next₀ next' i
+    threaded : Threading n p next' i
     unfolding next'
     threaded =
         record {
-          up_to = omega (arith, inside);
-          long = simp length-set T.long;
-          room = simp length-set T.room;
           below = λ r l f. root_at r l f (ℕ_discrete r (entry p i));
           above = λ j h l. ⊎_elim (λ (g : i ≡ j). rw (sym g, at_i) behind) (λ g. rw (at_other j (λ e. omega arith) (λ e. omega (arith, low))) (T.above j g l)) (eq-or-lt_of_le h);
         }
@@ -86,40 +71,34 @@ module _ {n : ℕ} {p next₀ next : List ℕ} {i : ℕ} (F : Flat n p) (T : Thr
         root_at r l f (yes e) = rw (e, at_r) (found (le_refl i) inside refl (λ m a b g. absurd (omega arith)))
         root_at r l f (no e) = rw (at_other r (λ g. omega arith) e) (skip (λ g. e (sym g)) (T.below r (le_step l) f))
 
--- the code has taken 1 off
-down_one : {n : ℕ} {p next₀ next : List ℕ} {k : ℕ} → 0 < k → Threading n p next₀ next k → Threading n p next₀ next (suc (k - 1))
+-- the index of a turn is one below where the invariant stands
+down_one : {n : ℕ} {p next : List ℕ} {k : ℕ} → 0 < k → Threading n p next k → Threading n p next (suc (k - 1))
 down_one {k} l T = let e : suc (k - 1) ≡ k = omega arith in rw e T
-
-low_at : {n : ℕ} {p next₀ next : List ℕ} {k : ℕ} → Flat n p → 0 < k → Threading n p next₀ next k → entry p (k - 1) ≤ k - 1
-low_at {k} F l T = F.low (k - 1) (omega (arith, T.up_to))
 
 pub loop-i-init : goal.loop-i-init
 loop-i-init c = start c.requires.1
 
 pub overflow_cast-root : goal.overflow_cast-root
-overflow_cast-root c = omega (arith, low_at c.requires.0 c.loop-i-test.true c.loop-i.invariant)
+overflow_cast-root c = omega (arith, c.requires.0.low (c.loop-i.i - 1) (omega arith))
 
 pub offset_bounds-next-root : goal.offset_bounds-next-root
-offset_bounds-next-root c = omega (arith, low_at c.requires.0 c.loop-i-test.true c.loop-i.invariant)
+offset_bounds-next-root c = omega (arith, c.requires.0.low (c.loop-i.i - 1) (omega arith))
 
 pub bounds-next-root : goal.bounds-next-root
-bounds-next-root c = omega (arith, low_at c.requires.0 c.loop-i-test.true c.loop-i.invariant)
+bounds-next-root c = omega (arith, c.requires.0.low (c.loop-i.i - 1) (omega arith))
 
 pub offset_bounds-next-root-then-root-i : goal.offset_bounds-next-root-then-root-i
-offset_bounds-next-root-then-root-i c = omega (arith, low_at c.requires.0 c.loop-i-test.true c.loop-i.invariant)
+offset_bounds-next-root-then-root-i c = omega (arith, c.requires.0.low (c.loop-i.i - 1) (omega arith))
 
 pub bounds-next-root-then-root-i : goal.bounds-next-root-then-root-i
-bounds-next-root-then-root-i c = simp length-set (omega (arith, low_at c.requires.0 c.loop-i-test.true c.loop-i.invariant))
+bounds-next-root-then-root-i c = simp length-set (omega (arith, c.requires.0.low (c.loop-i.i - 1) (omega arith)))
 
 pub loop-i-preserved-then-root-i : goal.loop-i-preserved-then-root-i
 unfolding next'
-loop-i-preserved-then-root-i c = threaded c.requires.0 (down_one c.loop-i-test.true c.loop-i.invariant) c.if-root-i.true
+loop-i-preserved-then-root-i c = threaded c.requires.0 (omega arith) (omega arith) (down_one c.loop-i-test.true c.loop-i.invariant) c.if-root-i.true
 
 pub loop-i-preserved : goal.loop-i-preserved
-loop-i-preserved c = at_root c.requires.0 (down_one c.loop-i-test.true c.loop-i.invariant) c.if-root-i.false
-
-pub shape_of-next : goal.shape_of-next
-shape_of-next c = c.loop-i.invariant.long
+loop-i-preserved c = at_root c.requires.0 (omega arith) (omega arith) (down_one c.loop-i-test.true c.loop-i.invariant) c.if-root-i.false
 
 pub returns : goal.returns
-returns c = done c.loop-i.invariant c.loop-i-test.false
+returns c = record { room = omega arith; after = λ j l. c.loop-i.invariant.above j (omega arith) l }

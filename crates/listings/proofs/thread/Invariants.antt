@@ -3,19 +3,12 @@
 use mathlib.Core.Path.{◌≡◌}
 use mathlib.Core.List.{List}
 use Prim.Native.Nat.{ℕ, suc, ◌≤◌, ◌<◌}
-use lib.ListN.{length}
 use Rattle.sets.specs.Steps.{entry, First}
 use Rattle.listings.proofs.thread.Given as goal
 
-pub record Threading (n : ℕ) (p next₀ next : List ℕ) (i : ℕ) : Type 0 where
-  pub up_to : i ≤ n
-  pub long : length next ≡ length next₀
-  pub room : n ≤ length next
+pub record Threading (n : ℕ) (p next : List ℕ) (i : ℕ) : Type 0 where
   pub below : (r : ℕ) → r < i → entry p r ≡ r → First n p r i (entry next r)
   pub above : (j : ℕ) → i ≤ j → j < n → First n p (entry p j) (suc j) (entry next j)
 
 abbrev pub invariant-loop-i : goal.invariant-loop-i
-invariant-loop-i l = Threading l.n l.parents l.initial.next l.next l.i
-
-abbrev pub decreases-loop-i : goal.decreases-loop-i
-decreases-loop-i l = l.i
+invariant-loop-i l = Threading l.n l.parents l.next l.i

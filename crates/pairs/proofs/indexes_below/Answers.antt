@@ -1,37 +1,27 @@
--- `pairs::indexes_below` meets its contract. The invariant: every number that was passed is an index below n.
-use mathlib.Core.Path.{sym}
-use native.Mathlib.Omega.{arith}
-use native.Mathlib.Nat.{lt_of_lt_of_le}
-use lib.ListN.{length}
-use borrow.Author.Count.{below_none, below_more}
-use borrow.Author.Rules.{scaled_Fits}
-use borrow.Author.Tests.{lt-ltb, le-ltb}
-use Rattle.lists.proofs.Every.{every_of, every_fails}
+-- `pairs::indexes_below` meets its contract: the library's test of each element is the definition's.
+use Rattle.std.proofs.Common.{◌≡◌, rules, tests, Bool, List, ℕ, zero, suc, ◌≤◌, ◌&&◌, length, get_or, take, ltb, arith, refl, sym, ap, ◌∙◌}
+use native.Mathlib.Numerals.{add-one}
+use native.Mathlib.Nat.{le_refl}
+use Rattle.std.specs.List.{list_all}
+use Rattle.std.proofs.lemmas.Iterator.{YieldsList-from_slice}
+use Rattle.std.proofs.lemmas.Iterator.Search.{all_from_yields_List}
+use Rattle.std.proofs.lemmas.List.{take_all}
+use Rattle.std.proofs.lemmas.List.Folds.{list_all_more}
+use Rattle.lists.specs.Lists.{every_below}
 use Rattle.pairs.proofs.indexes_below.Goals as goal
 
-pub loop-i-init : goal.loop-i-init
-loop-i-init c = (omega arith, below_none _)
+module _ (test : ℕ → Bool) (xs : List ℕ) where
+  each : (i : ℕ) → i ≤ length xs → list_all test (take i xs) ≡ every_below i (λ k. test (get_or xs k 0))
+  unfolding every_below
+  each zero h = refl
+  each (suc i) h =
+      ap (λ (k : ℕ). list_all test (take k xs)) (sym (add-one i)) ∙ list_all_more test xs i 0 h ∙ ap (λ (b : Bool). b && test (get_or xs i 0)) (each i (omega arith))
 
-pub offset_bounds-pairs-i : goal.offset_bounds-pairs-i
-offset_bounds-pairs-i c = scaled_Fits c.loop-i.i (length c.args.pairs.now) 4 c.loop-i-test.true c.well_formed.0.1
-
-pub bounds-pairs-i : goal.bounds-pairs-i
-bounds-pairs-i c = c.loop-i-test.true
-
-pub overflow_cast-pairs : goal.overflow_cast-pairs
-overflow_cast-pairs c = omega (arith, c.shared_slice_known-1.given c.loop-i.i)
-
-pub returns-then-n-pairs : goal.returns-then-n-pairs
-returns-then-n-pairs c = sym (every_fails _ _ c.loop-i.i c.loop-i-test.true (le-ltb _ _ c.if-n-pairs.true))
-
-pub overflow_add-i : goal.overflow_add-i
-overflow_add-i c = omega (arith, c.loop-i-test.true, c.well_formed.0.0)
-
-pub loop-i-smaller : goal.loop-i-smaller
-loop-i-smaller c = omega (arith, c.loop-i-test.true)
-
-pub loop-i-preserved : goal.loop-i-preserved
-loop-i-preserved c = (omega (arith, c.loop-i-test.true), below_more _ _ c.loop-i.invariant.1 (lt-ltb _ _ c.if-n-pairs.false))
+  every : list_all test xs ≡ every_below (length xs) (λ k. test (get_or xs k 0))
+  every = ap (list_all test) (sym (take_all (length xs) xs (le_refl (length xs)))) ∙ each (length xs) (le_refl (length xs))
 
 pub returns : goal.returns
-returns c = sym (every_of _ _ (λ k l. c.loop-i.invariant.1 k (lt_of_lt_of_le l c.loop-i-test.false)))
+returns c =
+    let below = λ (i : ℕ). ltb i c.args.n in
+    let pairs = c.args.pairs.now in
+    all_from_yields_List below _ _ _ c.all.ensures.ran (YieldsList-from_slice pairs cc) (λ x b q k. search (rules, tests)) ∙ every below pairs

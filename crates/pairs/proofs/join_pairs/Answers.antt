@@ -1,24 +1,15 @@
 -- `pairs::join_pairs` meets its contract: each turn joins one pair more, and all pairs are the whole rule.
-use mathlib.Core.Path.{◌≡◌, refl, ◌∙◌, subst}
+use mathlib.Core.Path.{◌≡◌}
 use mathlib.Core.Bool.{false≢true}
-use mathlib.Core.List.{List}
-use Prim.Native.Nat.{ℕ, ◌+◌, ◌*◌, ◌/◌, ◌≤◌, ◌<◌, zero-le}
+use Prim.Native.Nat.{ℕ, ◌+◌, ◌*◌, ◌/◌, ◌<◌}
 use native.Mathlib.Omega.{arith}
-use native.Mathlib.Nat.{le_antisymm}
-use native.Mathlib.Numerals.{add-one-le}
 use lib.ListN.{length}
 use borrow.Author.Rules.{scaled_Fits}
-use Rattle.lists.specs.Lists.{below, written}
 use Rattle.sets.specs.Closed.{Below}
-use Rattle.sets.specs.Steps.{Joins, Room}
 use Rattle.sets.proofs.Joins.{joins_none}
 use Rattle.pairs.specs.Pairs.{Paired}
 use Rattle.pairs.proofs.Rule.{pair_joined}
-use Rattle.pairs.proofs.join_pairs.Invariants.{Joining}
 use Rattle.pairs.proofs.join_pairs.Goals as goal
-
-begun : {pairs : List ℕ} {n count : ℕ} {p q : List ℕ} → Room n p → q ≡ written (below n) p → Joining pairs n count q q 0
-begun {pairs} {n} R e = record { up_to = zero-le; long = refl; joined = rw e (joins_none R (Below n) (λ i l. l) (Paired pairs 0) (λ i j di dj h. false≢true h)) }
 
 -- the numbers of pair k stand in the list
 first : (l k : ℕ) → k < l / 2 → 2 * k < l
@@ -31,7 +22,8 @@ pub begin-requires : goal.begin-requires
 begin-requires c = c.requires.0
 
 pub loop-k-init : goal.loop-k-init
-loop-k-init c = begun c.requires.0 c.begin.ensures
+loop-k-init c =
+    rw c.begin.ensures (joins_none c.requires.0 (Below c.args.n) (λ i l. l) (Paired c.args.pairs.now 0) (λ i j di dj h. false≢true h))
 
 pub overflow_mul-a : goal.overflow_mul-a
 overflow_mul-a c = let h = c.loop-k-test.true in omega (arith, c.well_formed.0.0)
@@ -67,30 +59,16 @@ pub join-requires : goal.join-requires
 join-requires c =
     let k = c.loop-k.k in
     let h = c.loop-k-test.true in
-    (c.loop-k.invariant.joined.parents, c.requires.1 (2 * k) (first _ _ h), c.requires.1 (2 * k + 1) (second _ _ h))
-
-pub overflow_add-k : goal.overflow_add-k
-overflow_add-k c = let h = c.loop-k-test.true in omega (arith, c.well_formed.0.0)
-
-pub loop-k-smaller : goal.loop-k-smaller
-loop-k-smaller c = let h = c.loop-k-test.true in omega arith
+    (c.loop-k.invariant.parents, c.requires.1 (2 * k) (first _ _ h), c.requires.1 (2 * k + 1) (second _ _ h))
 
 pub loop-k-preserved : goal.loop-k-preserved
 loop-k-preserved c =
     let pairs = c.args.pairs.now in
     let k = c.loop-k.k in
     let h = c.loop-k-test.true in
-    record {
-      up_to = add-one-le h;
-      long = c.join.auto.parents ∙ c.loop-k.invariant.long;
-      joined = pair_joined pairs k (c.requires.1 (2 * k) (first (length pairs) k h)) (c.requires.1 (2 * k + 1) (second (length pairs) k h)) c.loop-k.invariant.joined c.join.ensures;
-    }
-
-pub shape_of-parents : goal.shape_of-parents
-shape_of-parents c = c.loop-k.invariant.long ∙ c.begin.auto.parents
+    pair_joined pairs k (c.requires.1 (2 * k) (first (length pairs) k h)) (c.requires.1 (2 * k + 1) (second (length pairs) k h)) c.loop-k.invariant c.join.ensures
 
 pub returns : goal.returns
-returns c = all c.loop-k.invariant c.loop-k-test.false
-  where
-    all : {pairs : List ℕ} {n count : ℕ} {p q : List ℕ} {k : ℕ} → Joining pairs n count p q k → count ≤ k → Joins n (Below n) (Paired pairs count) q
-    all {pairs} {n} {q = q} J h = subst (λ (m : ℕ). Joins n (Below n) (Paired pairs m) q) (le_antisymm J.up_to h) J.joined
+returns c =
+    let end : c.loop-k.k ≡ length c.args.pairs.now / 2 = omega arith in
+    rw end at c.loop-k.invariant

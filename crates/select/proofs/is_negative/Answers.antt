@@ -1,13 +1,15 @@
--- `select::is_negative` meets its contract: the sign is the highest bit of the pattern.
-use mathlib.Core.Path.{sym, subst}
-use mathlib.Core.Bool.{Bool, not}
-use lib.Dec.{T}
-use lib.Ieee.{binary64}
-use Rattle.math.proofs.Tests.{of_true, sign_bit}
+-- `select::is_negative` meets its contract: the library's word for it is the definition's.
+use Rattle.std.proofs.Common.{◌≡◌, Float, refl, ◌∙◌}
+use lib.Ieee.{nan, inf, fin}
+use Rattle.std.specs.Float.{is_sign_negative}
+use Rattle.math.specs.Select.{negative}
 use Rattle.select.proofs.is_negative.Goals as goal
 
-pub float_to_bits-result : goal.float_to_bits-result
-float_to_bits-result c = subst (λ (b : Bool). T (not b)) (sym c.requires) tt
+same : (x : Float) → is_sign_negative x ≡ negative x
+unfolding is_sign_negative
+same nan = refl
+same (inf s) = refl
+same (fin s m e) = refl
 
 pub returns : goal.returns
-returns c = sign_bit binary64 c.args.x (of_true c.well_formed.0.1) c.requires
+returns c = c.is_sign_negative.ensures ∙ same c.args.x

@@ -1,23 +1,22 @@
 -- `sets::flatten` meets its contract: going up, a parent below i is a root already, and has the root of i.
-use mathlib.Core.Path.{◌≡◌, refl, sym, ◌∙◌}
+use mathlib.Core.Path.{◌≡◌, sym, ◌∙◌}
 use mathlib.Core.Logic.{⊎_elim}
 use mathlib.Core.List.{List, map}
 use Prim.Native.Nat.{ℕ, ◌≤◌, ◌+◌, ◌<◌}
 use native.Mathlib.Nat.{eq-or-lt_of_le, le_refl}
 use native.Mathlib.Omega.{arith}
-use lib.ListN.{get_or, set, length-set}
-use Rattle.lists.specs.Lists.{below}
+use lib.ListN.{get_or, set}
+use Rattle.lists.specs.Lists.{below, written}
 use Rattle.lists.proofs.Keep.{length_values, get_d_values, values_more}
 use Rattle.lists.proofs.Written.{written_at, written_past, written_more}
 use Rattle.sets.specs.Steps.{Parents, root}
 use Rattle.sets.proofs.Roots.{root_parent, root_stays}
-use Rattle.sets.proofs.flatten.Invariants.{Flat}
 use Rattle.sets.proofs.flatten.Goals.{In-loop-i}
 use Rattle.sets.proofs.flatten.Goals as goal
 
-module _ {n : ℕ} {p q : List ℕ} {i : ℕ} (P : Parents n p) (F : Flat n p q i) (l : i < n) where
+module _ {n : ℕ} {p q : List ℕ} {i : ℕ} (P : Parents n p) (F : q ≡ written (map (root p) (below i)) p) (l : i < n) where
   parent : get_or q i 0 ≡ get_or p i 0
-  parent = rw F.flat (written_past (map (root p) (below i)) p i 0 (rw (length_values (root p) i) (le_refl i)))
+  parent = rw F (written_past (map (root p) (below i)) p i 0 (rw (length_values (root p) i) (le_refl i)))
 
   low : get_or q i 0 ≤ i
   low = rw parent (P.down i l)
@@ -27,23 +26,13 @@ module _ {n : ℕ} {p q : List ℕ} {i : ℕ} (P : Parents n p) (F : Flat n p q 
       ⊎_elim
       (λ (e : get_or p i 0 ≡ i). rw (parent, e, parent, e) (sym (root_stays P i e)))
       (λ (m : get_or p i 0 < i).
-      rw (parent, F.flat)
+      rw (parent, F)
       (written_at (map (root p) (below i)) p (get_or p i 0) 0 (rw (length_values (root p) i) m) ∙ get_d_values (root p) i (get_or p i 0) 0 m
       ∙ root_parent P i l))
       (eq-or-lt_of_le (P.down i l))
 
-  turn : Flat n p (set q i (get_or q (get_or q i 0) 0)) (i + 1)
-  turn =
-      record {
-        up_to = omega arith;
-        long = length-set q i (get_or q (get_or q i 0) 0) ∙ F.long;
-        flat =
-            rw value
-            (written_more (map (root p) (below i)) p (root p i) F.flat (length_values (root p) i) (omega (arith, P.room)) (values_more (root p) i));
-      }
-
-pub loop-i-init : goal.loop-i-init
-loop-i-init c = record { up_to = omega arith; long = refl; flat = refl }
+  turn : set q i (get_or q (get_or q i 0) 0) ≡ written (map (root p) (below (i + 1))) p
+  turn = rw value (written_more (map (root p) (below i)) p (root p i) F (length_values (root p) i) (omega (arith, P.room)) (values_more (root p) i))
 
 low-at : (c : In-loop-i) → get_or c.loop-i.parents c.loop-i.i 0 ≤ c.loop-i.i
 low-at c = low c.requires c.loop-i.invariant c.loop-i-test.true
@@ -60,10 +49,7 @@ bounds-parents-up c = omega (arith, low-at (goal.at.bounds-parents-up c).In-loop
 pub loop-i-preserved : goal.loop-i-preserved
 loop-i-preserved c = turn c.requires c.loop-i.invariant c.loop-i-test.true
 
-pub shape_of-parents : goal.shape_of-parents
-shape_of-parents c = c.loop-i.invariant.long
-
 pub returns : goal.returns
 returns c =
     let end : c.loop-i.i ≡ c.args.n = omega arith in
-    rw end at c.loop-i.invariant.flat
+    rw end at c.loop-i.invariant

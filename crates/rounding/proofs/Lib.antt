@@ -1,2 +1,0 @@
--- Why the casts are right.
-pub mod Cast
