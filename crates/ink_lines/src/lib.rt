@@ -71,14 +71,13 @@ pub fn first_line(mask: &[u8], w: usize, r: Rect, rows: bool, limit: f64) -> u32
     ensures { result ≡ first_place (λ k. over limit (line_ink (ink_at w mask.now) r rows k)) (lines_of r rows) }
 {
     let n = lines_of(r, rows);
-    let mut k = passed_from_front(mask, w, r, rows, limit);
-    while k < n {
+    let passed = passed_from_front(mask, w, r, rows, limit);
+    for k in passed..n {
         if read::is_over(limit, line_count(mask, w, r, rows, k)) {
             return k;
         }
-        k += 1;
     }
-    k
+    n
 }
 
 // One more than the last line whose ink is over the limit, and 0 where none is.
@@ -86,13 +85,11 @@ pub fn last_line_end(mask: &[u8], w: usize, r: Rect, rows: bool, limit: f64) -> 
     requires { Readable mask.now w r }
     ensures { result ≡ last_end (λ k. over limit (line_ink (ink_at w mask.now) r rows k)) (lines_of r rows) }
 {
-    let mut end = passed_from_back(mask, w, r, rows, limit);
-    while 0 < end {
-        let last = end - 1;
-        if read::is_over(limit, line_count(mask, w, r, rows, last)) {
-            return end;
+    let end = passed_from_back(mask, w, r, rows, limit);
+    for k in (0..end).rev() {
+        if read::is_over(limit, line_count(mask, w, r, rows, k)) {
+            return k + 1;
         }
-        end = last;
     }
     0
 }
@@ -102,14 +99,11 @@ pub fn longest(mask: &[u8], w: usize, r: Rect, rows: bool) -> u32
     requires { Readable mask.now w r }
     ensures { result ≡ longest_run (λ k. ltb 0 (line_ink (ink_at w mask.now) r rows k)) (lines_of r rows) }
 {
-    let n = lines_of(r, rows);
     let mut best = 0;
     let mut run = 0;
-    let mut k = 0;
-    while k < n {
+    for k in 0..lines_of(r, rows) {
         run = longer_run(run, line_has_ink(mask, w, r, rows, k));
-        best = rects::greatest(best, run);
-        k += 1;
+        best = best.max(run);
     }
     best
 }
