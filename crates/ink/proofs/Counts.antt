@@ -16,6 +16,8 @@ use Rattle.lists.proofs.Keep.{keep_append, keep_below_same, length_below, true_a
 use Rattle.lists.proofs.Sizes.{keep_size_le, keep_none}
 use Rattle.rects.specs.Rects.{width_of, height_of}
 use Rattle.rects.specs.declared.Rect.{Rect}
+use Rattle.ink.specs.declared.Lines.{Lines}
+use Rattle.ink.specs.declared.Lines.TheVariants.{Rows, Columns}
 use Rattle.ink.specs.Ink.{Ink, ink_at, many, row_ink, ink_in_rows}
 use Rattle.ink.specs.Steps.{lines_of, Readable}
 
@@ -113,6 +115,6 @@ rows_next ink r j e f = rw (add-one j) (omega arith)
 
 -- ---- lines
 
-pub lines_le : (mask : List ℕ) (w : ℕ) (r : Rect) → Readable mask w r → (rows : Bool) → lines_of r rows ≤ 8192
-lines_le mask w r R true = omega (arith, R.low)
-lines_le mask w r R false = omega (arith, R.right, R.narrow)
+pub lines_le : (mask : List ℕ) (w : ℕ) (r : Rect) → Readable mask w r → (lines : Lines) → lines_of r lines ≤ 8192
+lines_le mask w r R Rows = omega (arith, R.low)
+lines_le mask w r R Columns = omega (arith, R.right, R.narrow)
