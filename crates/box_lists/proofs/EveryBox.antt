@@ -21,7 +21,7 @@ use Rattle.rects.proofs.Questions.{has_numbers}
 use Rattle.ink.specs.Ink.{Ink}
 use Rattle.glyph_tests.specs.declared.limits.Limits.{Limits}
 use Rattle.glyph_tests.specs.declared.found.CheckBox.{CheckBox}
-use Rattle.glyph_tests.specs.declared.found.Found.TheVariants.{PassedOver, Box}
+use Rattle.std.specs.Prelude.{Some, None}
 use Rattle.glyph_tests.specs.Tests.{size_missed, has_frame}
 use Rattle.glyph_tests.specs.Glyph.{frame_missed, box_in, trimmed, passed_over, box_of}
 use Rattle.box_lists.specs.Boxes.{chosen, boxes_below, boxes_of, Ascends, EveryBox, frames_of}
@@ -70,7 +70,7 @@ module _ (ink : Ink) (l : Limits) (glyphs : List ℕ) where
       rw (add-one k) (ap (map box_at) (keep_append stays (below k) (k ∷ [])) ∙ map_append box_at (keep stays (below k)) (keep stays (k ∷ []))
       ∙ ap (λ (t : List CheckBox). map box_at (keep stays (below k)) ++ t) (go (passed_over ink l (rect_at glyphs k))))
     where
-      go : (b : Bool) → map box_at (cond (not b) (k ∷ []) []) ≡ listed (cond b PassedOver (Box (box_at k)))
+      go : (b : Bool) → map box_at (cond (not b) (k ∷ []) []) ≡ listed (cond b None (Some (box_at k)))
       go true = refl
       go false = refl
 

@@ -7,7 +7,7 @@ use native.Mathlib.Numerals.{add-one}
 use native.Mathlib.Decide.{le_ind}
 use native.Mathlib.Omega.{arith}
 use lib.Ieee.{Float}
-use lib.ListN.{length, set, length-append, length-map}
+use lib.ListN.{length, length-append, length-map}
 use lib.Seq.{sets, length-sets}
 use Rattle.lists.specs.Lists.{concat, written}
 use Rattle.lists.proofs.Keep.{map_append, concat_append}
@@ -17,28 +17,20 @@ use Rattle.rects.specs.declared.Rect.{Rect}
 use Rattle.ink.specs.Ink.{ink_at}
 use Rattle.glyph_tests.specs.declared.limits.Limits.{Limits}
 use Rattle.glyph_tests.specs.declared.found.CheckBox.{CheckBox}
-use Rattle.glyph_tests.specs.declared.found.Found.{Found}
-use Rattle.glyph_tests.specs.declared.found.Found.TheVariants.{PassedOver, Box}
+use Rattle.std.specs.Prelude.{Option, Some, None}
 use Rattle.box_lists.specs.Boxes.{boxes_below, frames_of, marks_of, coverages_of}
 use Rattle.glyph_tests.specs.Steps.{found_of}
 use Rattle.box_lists.specs.Steps.{listed, RoomAt, Stored, Ready, Made}
 use Rattle.box_lists.proofs.EveryBox.{boxes_next, boxes_none, boxes_few, rectangles_long, boxes_inside}
 
--- ---- what was found, stored
+-- ---- nothing was found: nothing is stored
 
-pub stored_none : {found : Found} {n : ℕ} {rs ms : List ℕ} {cs : List Float} → found ≡ PassedOver → Stored found n rs ms cs rs ms cs n
-stored_none {found} {n} {rs} {ms} {cs} e =
-    subst (λ (f : Found). Stored f n rs ms cs rs ms cs n) (sym e) (record { rects = refl; marks = refl; coverages = refl; number = omega arith })
+stored_none : {n : ℕ} {rs ms : List ℕ} {cs : List Float} → Stored None n rs ms cs rs ms cs n
+stored_none = record { rects = refl; marks = refl; coverages = refl; number = omega arith }
 
-pub stored_one : {found : Found} {n : ℕ} {rs ms rs' : List ℕ} {cs : List Float} (b : CheckBox) → found ≡ Box b → rs' ≡ sets rs (4 * n) (numbers_of b.bbox)
-    → Stored found n rs ms cs rs' (set ms n b.mark) (set cs n b.edge_coverage) (n + 1)
-stored_one {found} {n} {rs} {ms} {rs'} {cs} b e r =
-    subst (λ (f : Found). Stored f n rs ms cs rs' (set ms n b.mark) (set cs n b.edge_coverage) (n + 1)) (sym e)
-    (record { rects = r; marks = refl; coverages = refl; number = omega arith })
-
-listed_few : (f : Found) → length (listed f) ≤ 1
-listed_few PassedOver = zero-le
-listed_few (Box b) = omega arith
+listed_few : (f : Option CheckBox) → length (listed f) ≤ 1
+listed_few None = zero-le
+listed_few (Some b) = omega arith
 
 rectangles_append : (xs ys : List CheckBox) → frames_of (xs ++ ys) ≡ frames_of xs ++ frames_of ys
 rectangles_append xs ys =
@@ -93,12 +85,12 @@ module _ (mask : List ℕ) (w : ℕ) (glyphs : List ℕ) (l : Limits) where
           coverages = omega (arith, few, F.coverages_long, R.coverages);
         }
 
-    pub turn : {rs' ms' : List ℕ} {cs' : List Float} {n' : ℕ} {r : Rect} {found : Found} → r ≡ rect_at glyphs k → found ≡ found_of (ink_at w mask) l r
+    pub turn : {rs' ms' : List ℕ} {cs' : List Float} {n' : ℕ} {r : Rect} {found : Option CheckBox} → r ≡ rect_at glyphs k → found ≡ found_of (ink_at w mask) l r
         → Stored found n rs ms cs rs' ms' cs' n' → Finding rs₀ ms₀ cs₀ rs' ms' cs' n' (k + 1)
     turn {rs'} {ms'} {cs'} {n'} {r} {found} e f S =
         let xs = bs k in
         let ys = listed found in
-        let next : bs (k + 1) ≡ xs ++ ys = boxes_next (ink_at w mask) l glyphs k ∙ ap (λ (g : Found). xs ++ listed g) (sym (f ∙ ap (found_of (ink_at w mask) l) e)) in
+        let next : bs (k + 1) ≡ xs ++ ys = boxes_next (ink_at w mask) l glyphs k ∙ ap (λ (g : Option CheckBox). xs ++ listed g) (sym (f ∙ ap (found_of (ink_at w mask) l) e)) in
         let one = listed_few found in
         record {
           up_to = omega arith;
@@ -119,11 +111,11 @@ module _ (mask : List ℕ) (w : ℕ) (glyphs : List ℕ) (l : Limits) where
 
   -- glyph boxes that are passed over
   pub skip : {rs₀ ms₀ rs ms : List ℕ} {cs₀ cs : List Float} {n k : ℕ} → Ready mask w glyphs l rs₀ ms₀ cs₀ → Finding rs₀ ms₀ cs₀ rs ms cs n k → (r : ℕ) → k ≤ r
-      → r ≤ count glyphs → ((j : ℕ) → k ≤ j → j < r → PassedOver ≡ found_of (ink_at w mask) l (rect_at glyphs j)) → Finding rs₀ ms₀ cs₀ rs ms cs n r
+      → r ≤ count glyphs → ((j : ℕ) → k ≤ j → j < r → None ≡ found_of (ink_at w mask) l (rect_at glyphs j)) → Finding rs₀ ms₀ cs₀ rs ms cs n r
   skip {rs₀} {ms₀} {rs} {ms} {cs₀} {cs} {n} {k} R F r h u passed =
       le_ind (λ (m : ℕ). m ≤ r → Finding rs₀ ms₀ cs₀ rs ms cs n m) (λ v. F)
       (λ m a ih v.
-      subst (λ (x : ℕ). Finding rs₀ ms₀ cs₀ rs ms cs n x) (add-one m) (turn R (ih (omega arith)) (omega arith) refl (passed m a (omega arith)) (stored_none refl))) r h
+      subst (λ (x : ℕ). Finding rs₀ ms₀ cs₀ rs ms cs n x) (add-one m) (turn R (ih (omega arith)) (omega arith) refl (passed m a (omega arith)) stored_none)) r h
       (le_refl r)
 
   pub done : {rs₀ ms₀ rs ms : List ℕ} {cs₀ cs : List Float} {n k : ℕ} → Ready mask w glyphs l rs₀ ms₀ cs₀ → Finding rs₀ ms₀ cs₀ rs ms cs n k → count glyphs ≤ k

@@ -1,5 +1,5 @@
 -- What the functions of `box_lists` ask and leave; none of it is needed to read the contract of `boxes`.
-use Rattle.std.specs.Prelude.{◌≡◌, List, [], ◌∷◌, ℕ, ◌+◌, ◌*◌, ◌≤◌, ◌<◌, Float, length}
+use Rattle.std.specs.Prelude.{◌≡◌, Option, Some, None, List, [], ◌∷◌, ℕ, ◌+◌, ◌*◌, ◌≤◌, ◌<◌, Float, length}
 use Rattle.std.proofs.lemmas.List.Edits.{sets}
 use Rattle.lists.specs.Lists.{written}
 use Rattle.rects.specs.Rects.{count, rect_at, width_of}
@@ -8,14 +8,12 @@ use Rattle.ink.specs.Ink.{ink_at}
 use Rattle.ink.specs.Steps.{Readable}
 use Rattle.glyph_tests.specs.declared.limits.Limits.{Limits}
 use Rattle.glyph_tests.specs.declared.found.CheckBox.{CheckBox}
-use Rattle.glyph_tests.specs.declared.found.Found.{Found}
-use Rattle.glyph_tests.specs.declared.found.Found.TheVariants.{PassedOver, Box}
 use Rattle.box_lists.specs.Boxes.{boxes_of, frames_of, marks_of, coverages_of}
 
 -- The boxes that were found: none or one.
-abbrev pub listed : Found → List CheckBox
-listed PassedOver = []
-listed (Box b) = b ∷ []
+abbrev pub listed : Option CheckBox → List CheckBox
+listed None = []
+listed (Some b) = b ∷ []
 
 -- There is room for one more box after n.
 pub record RoomAt (n : ℕ) (rs ms : List ℕ) (cs : List Float) : Type 0 where
@@ -24,7 +22,7 @@ pub record RoomAt (n : ℕ) (rs ms : List ℕ) (cs : List Float) : Type 0 where
   pub coverages : n < length cs
 
 -- What was found is stored after n boxes.
-pub record Stored (found : Found) (n : ℕ) (rs ms : List ℕ) (cs : List Float) (rs' ms' : List ℕ) (cs' : List Float) (n' : ℕ) : Type 0 where
+pub record Stored (found : Option CheckBox) (n : ℕ) (rs ms : List ℕ) (cs : List Float) (rs' ms' : List ℕ) (cs' : List Float) (n' : ℕ) : Type 0 where
   pub rects : rs' ≡ sets rs (4 * n) (frames_of (listed found))
   pub marks : ms' ≡ sets ms n (marks_of (listed found))
   pub coverages : cs' ≡ sets cs n (coverages_of (listed found))

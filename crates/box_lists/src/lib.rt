@@ -5,7 +5,7 @@ ghost use Rattle.std.specs.Prelude.{◌+◌, ◌≤◌, ◌<◌};
 ghost use Rattle.rects.specs.Rects.{count};
 ghost use Rattle.box_lists.specs.Steps.{RoomAt, Stored, Widths, NextWide, Ready, Made};
 
-use glyph_tests::found::Found;
+use glyph_tests::found::CheckBox;
 use glyph_tests::limits::Limits;
 use rects::Rect;
 
@@ -15,21 +15,19 @@ fn store(
     marks: &mut [u32],
     coverages: &mut [f64],
     n: usize,
-    found: Found,
+    found: Option<CheckBox>,
 ) -> usize
     requires { RoomAt n rects.old marks.old coverages.old }
     ensures { Stored found n rects.old marks.old coverages.old
         rects.new marks.new coverages.new result }
 {
-    match found {
-        Found::PassedOver => n,
-        Found::Box(b) => {
-            rects::put_rect(rects, n, b.bbox);
-            marks[n] = b.mark;
-            coverages[n] = b.edge_coverage;
-            n + 1
-        }
-    }
+    let Some(b) = found else {
+        return n;
+    };
+    rects::put_rect(rects, n, b.bbox);
+    marks[n] = b.mark;
+    coverages[n] = b.edge_coverage;
+    n + 1
 }
 
 // The first glyph box at or past `from` that is at least so wide, and their number where there is none. A narrower one is
@@ -39,12 +37,10 @@ fn next_wide(glyphs: &[u32], least: u64, from: usize) -> usize
     ensures { NextWide glyphs.now least from result }
 {
     let n = glyphs.len() / 4;
-    let mut k = from;
-    while k < n {
-        if least <= rects::rect_at(glyphs, k).width() as u64 {
+    for k in from..n {
+        if least <= u64::from(rects::rect_at(glyphs, k).width()) {
             return k;
         }
-        k += 1;
     }
     n
 }
@@ -67,6 +63,7 @@ pub fn find(
     let least = glyph_tests::sizes::whole_part(l.min_size);
     let mut n = 0;
     let mut k = next_wide(glyphs, least, 0);
+    // The walk skips the narrow ones, so it stays a `while`.
     while k < count {
         let found = glyph_tests::found::test_glyph(mask, w, rects::rect_at(glyphs, k), l);
         n = store(rects, marks, coverages, n, found);

@@ -16,6 +16,8 @@ use Rattle.sets.specs.Steps.{Joins, root}
 use Rattle.sets.proofs.Sweeps.{between_known, between_all}
 use Rattle.sorted.specs.Steps.{InOrder}
 use Rattle.box_widths.specs.Widths.{similar}
+use Rattle.box_sets.specs.declared.sweep.Axis.{Axis}
+use Rattle.box_sets.specs.declared.sweep.Axis.TheVariants.{X, Y}
 use Rattle.box_sets.specs.Boxes.{centre_x, aligned, touching, Touch}
 use Rattle.box_widths.specs.Steps.{PassedBoxes}
 use Rattle.box_sets.specs.Steps.{centre_in, Centred, Near, Sweep, JoinedSo, NextNear, SweptTo, JoinedNear}
@@ -23,25 +25,25 @@ use Rattle.box_sets.proofs.Nexts.{near_joined}
 
 -- ---- the keys are doubled centres
 
-centre_small : (columns : Bool) {r : Rect} → Inside 8192 8192 r → centre_in columns r < 2 ^ 14
-centre_small true I = omega (arith, I.wide, I.right)
-centre_small false I = omega (arith, I.high, I.bottom)
+centre_small : (axis : Axis) {r : Rect} → Inside 8192 8192 r → centre_in axis r < 2 ^ 14
+centre_small X I = omega (arith, I.wide, I.right)
+centre_small Y I = omega (arith, I.high, I.bottom)
 
 or_second : (x : Bool) → x || true ≡ true
 or_second true = refl
 or_second false = refl
 
-centre_aligns : (columns : Bool) (limit : ℕ) (a b : Rect) → leb (distance (centre_in columns a) (centre_in columns b)) limit ≡ true → aligned limit a b ≡ true
-centre_aligns true limit a b e = rw e
-centre_aligns false limit a b e = rw e (or_second (leb (distance (centre_x a) (centre_x b)) limit))
+centre_aligns : (axis : Axis) (limit : ℕ) (a b : Rect) → leb (distance (centre_in axis a) (centre_in axis b)) limit ≡ true → aligned limit a b ≡ true
+centre_aligns X limit a b e = rw e
+centre_aligns Y limit a b e = rw e (or_second (leb (distance (centre_x a) (centre_x b)) limit))
 
-pub centres_sweep : (rects : List ℕ) (limit : ℕ) (columns : Bool) {order keys : List ℕ} → PassedBoxes rects → Centred rects columns keys → InOrder (count rects) keys order
+pub centres_sweep : (rects : List ℕ) (limit : ℕ) (axis : Axis) {order keys : List ℕ} → PassedBoxes rects → Centred rects axis keys → InOrder (count rects) keys order
     → Sweep rects limit order keys
-centres_sweep rects limit columns P C K =
+centres_sweep rects limit axis P C K =
     record {
       sorted = K;
-      small = λ i h. rw (C i h) (centre_small columns (P.inside i h));
-      aligns = λ i j li lj e. centre_aligns columns limit (rect_at rects i) (rect_at rects j) (rw (C i li, C j lj) at e);
+      small = λ i h. rw (C i h) (centre_small axis (P.inside i h));
+      aligns = λ i j li lj e. centre_aligns axis limit (rect_at rects i) (rect_at rects j) (rw (C i li, C j lj) at e);
     }
 
 -- ---- rows
@@ -63,12 +65,12 @@ pub from_before : {rects : List ℕ} {limit : ℕ} {order keys p₀ p q : List �
 from_before B R = record { before = between_known R.before (λ i j di dj e. inl (B.before.done i j di dj e)); pairs = R.pairs }
 
 -- once all rows are done, all near boxes are joined
-pub sweep_done : {rects : List ℕ} {limit : ℕ} (columns : Bool) {order keys p q : List ℕ} {k l : ℕ} → PassedBoxes rects → Centred rects columns keys
-    → InOrder (count rects) keys order → SweptTo rects limit order keys p k l q → count rects ≤ k → JoinedNear rects limit columns p q
-sweep_done {rects} {limit} columns {order} {keys} {p} {q} P C K B h =
+pub sweep_done : {rects : List ℕ} {limit : ℕ} (axis : Axis) {order keys p q : List ℕ} {k l : ℕ} → PassedBoxes rects → Centred rects axis keys
+    → InOrder (count rects) keys order → SweptTo rects limit order keys p k l q → count rects ≤ k → JoinedNear rects limit axis p q
+sweep_done {rects} {limit} axis {order} {keys} {p} {q} P C K B h =
     record { pairs = between_known B.before (λ i j di dj s. ⊎_elim inl (λ t. inr (near_joined limit P K q next i j di dj (by_key i j di dj t))) s) }
   where
-    by_key : (i j : ℕ) → Below (count rects) i → Below (count rects) j → Near rects limit (λ i. centre_in columns (rect_at rects i)) i j
+    by_key : (i j : ℕ) → Below (count rects) i → Below (count rects) j → Near rects limit (λ i. centre_in axis (rect_at rects i)) i j
         → Near rects limit (λ i. get_or keys i 0) i j
     by_key i j di dj t = record { alike = t.alike; close = rw (C i di, C j dj) t.close }
 
@@ -83,18 +85,18 @@ either false y f = inr f
 
 -- boxes that touch are near by one of the two centres
 touching_near : (rects : List ℕ) (limit i j : ℕ) → Touch rects limit i j
-    → Near rects limit (λ i. centre_in true (rect_at rects i)) i j ⊎ Near rects limit (λ i. centre_in false (rect_at rects i)) i j
+    → Near rects limit (λ i. centre_in X (rect_at rects i)) i j ⊎ Near rects limit (λ i. centre_in Y (rect_at rects i)) i j
 unfolding touching
 touching_near rects limit i j t =
     let s = similar (width_of (rect_at rects i)) (width_of (rect_at rects j)) in
     let a = aligned limit (rect_at rects i) (rect_at rects j) in
     ⊎_elim (λ c. inl (record { alike = and_first s a t; close = c })) (λ c. inr (record { alike = and_first s a t; close = c })) (either _ _ (and_second s a t))
 
-pub both_sweeps : {rects : List ℕ} {limit : ℕ} {p q r : List ℕ} → JoinedNear rects limit true p q → JoinedNear rects limit false q r
+pub both_sweeps : {rects : List ℕ} {limit : ℕ} {p q r : List ℕ} → JoinedNear rects limit X p q → JoinedNear rects limit Y q r
     → Joins (count rects) (Below (count rects)) (Touch rects limit) r
 both_sweeps {rects} {limit} A B =
     between_all B.pairs (λ i j di dj t. inr (inl (⊎_elim (λ c. inl (A.pairs.done i j di dj (inr c))) inr (touching_near rects limit i j t))))
 
 -- a sweep may begin where another ended
-pub sweep_again : {rects : List ℕ} {limit : ℕ} {columns : Bool} {p q : List ℕ} → JoinedNear rects limit columns p q → JoinedSo rects limit (λ i j. ⊥) q
+pub sweep_again : {rects : List ℕ} {limit : ℕ} {axis : Axis} {p q : List ℕ} → JoinedNear rects limit axis p q → JoinedSo rects limit (λ i j. ⊥) q
 sweep_again B = between_known B.pairs (λ i j di dj e. absurd e)

@@ -1,5 +1,5 @@
 -- What the functions of `box_sets` say to each other and to those above.
-use Rattle.std.specs.Prelude.{◌≡◌, Bool, true, cond, ◌⊎◌, List, ℕ, ◌+◌, ◌^◌, ◌≤◌, ◌<◌, leb, length, get_or}
+use Rattle.std.specs.Prelude.{◌≡◌, true, ◌⊎◌, List, ℕ, ◌+◌, ◌^◌, ◌≤◌, ◌<◌, leb, length, get_or}
 use Rattle.lists.specs.Lists.{concat, written}
 use Rattle.sets.specs.Closed.{Below}
 use Rattle.sets.specs.Listing.{ends_from}
@@ -8,6 +8,8 @@ use Rattle.sorted.specs.Steps.{InOrder}
 use Rattle.rects.specs.declared.Rect.{Rect}
 use Rattle.rects.specs.Rects.{count, width_of, rect_at, distance}
 use Rattle.box_widths.specs.Widths.{similar}
+use Rattle.box_sets.specs.declared.sweep.Axis.{Axis}
+use Rattle.box_sets.specs.declared.sweep.Axis.TheVariants.{X, Y}
 use Rattle.box_sets.specs.Boxes.{centre_x, centre_y, aligned, Touch, box_sets}
 
 -- The closed sets were listed; they have no more members than there are boxes, and are no more.
@@ -19,13 +21,14 @@ pub record Connected (rects : List ℕ) (limit : ℕ) (m e m' e' : List ℕ) (r 
 
 -- ---- a sweep along one doubled centre
 
--- The doubled centre that the boxes of a column have in common, or else of a row.
-abbrev pub centre_in : Bool → Rect → ℕ
-centre_in columns r = cond columns (centre_x r) (centre_y r)
+-- The doubled centre along an axis: the boxes of a column have that along X in common, those of a row that along Y.
+abbrev pub centre_in : Axis → Rect → ℕ
+centre_in X r = centre_x r
+centre_in Y r = centre_y r
 
 -- Each box has its doubled centre in a list.
-abbrev pub Centred : List ℕ → Bool → List ℕ → Type 0
-Centred rects columns keys = (i : ℕ) → i < count rects → get_or keys i 0 ≡ centre_in columns (rect_at rects i)
+abbrev pub Centred : List ℕ → Axis → List ℕ → Type 0
+Centred rects axis keys = (i : ℕ) → i < count rects → get_or keys i 0 ≡ centre_in axis (rect_at rects i)
 
 -- Two boxes have similar widths, and their keys are near.
 pub record Near (rects : List ℕ) (limit : ℕ) (key : ℕ → ℕ) (i j : ℕ) : Type 0 where
@@ -71,5 +74,5 @@ pub record RowDone (rects : List ℕ) (limit : ℕ) (order keys p : List ℕ) (k
   pub one : OneSet order (k + 1) r q
 
 -- All that was joined in p is joined, and all pairs that are near by one doubled centre.
-pub record JoinedNear (rects : List ℕ) (limit : ℕ) (columns : Bool) (p q : List ℕ) : Type 0 where
-  pub pairs : JoinedSo rects limit (λ i j. (root p i ≡ root p j) ⊎ Near rects limit (λ i. centre_in columns (rect_at rects i)) i j) q
+pub record JoinedNear (rects : List ℕ) (limit : ℕ) (axis : Axis) (p q : List ℕ) : Type 0 where
+  pub pairs : JoinedSo rects limit (λ i j. (root p i ≡ root p j) ⊎ Near rects limit (λ i. centre_in axis (rect_at rects i)) i j) q

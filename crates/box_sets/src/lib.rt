@@ -12,6 +12,8 @@ ghost use Rattle.box_sets.specs.Boxes.{Touch};
 ghost use Rattle.box_widths.specs.Steps.{PassedBoxes};
 ghost use Rattle.box_sets.specs.Steps.{Connected};
 
+use sweep::Axis;
+
 // Joins every two boxes that touch: those of one column, then those of one row. The other lists are lent to sort in, with a place a box
 // each; `order` keeps what stands past those.
 fn join_all(
@@ -28,8 +30,8 @@ fn join_all(
         × (drop (count rects.now) order.new ≡ drop (count rects.now) order.old) }
 {
     sets::begin(parents, rects.len() / 4);
-    sweep::join_near(rects, limit, true, parents, order, work, keys);
-    sweep::join_near(rects, limit, false, parents, order, work, keys);
+    sweep::join_near(rects, limit, Axis::X, parents, order, work, keys);
+    sweep::join_near(rects, limit, Axis::Y, parents, order, work, keys);
 }
 
 // Lists the closed sets by smallest index, and returns how many there are. The parents, the work list and the keys are free afterwards.

@@ -8,47 +8,43 @@ ghost use Rattle.box_sets.specs.Steps.{centre_in, Centred, Sweep, SweptTo, OneSe
 
 use rects::Rect;
 
-// The doubled centre that the boxes of a column have in common, or else of a row.
-fn centre2(r: Rect, columns: bool) -> u64
-    ensures { result ≡ centre_in columns r }
+// Along which axis a doubled centre is taken: the boxes of a column have that along X in common, those of a row that along Y.
+#[derive(Clone, Copy)]
+pub enum Axis {
+    X,
+    Y,
+}
+
+// The doubled centre along an axis.
+fn centre2(r: Rect, axis: Axis) -> u64
+    ensures { result ≡ centre_in axis r }
 {
-    if columns {
-        (r.x0 as u64) + (r.x1 as u64)
-    } else {
-        (r.y0 as u64) + (r.y1 as u64)
+    match axis {
+        Axis::X => u64::from(r.x0) + u64::from(r.x1),
+        Axis::Y => u64::from(r.y0) + u64::from(r.y1),
     }
 }
 
 // Writes the doubled centre of each box.
-fn write_keys(rects: &[u32], columns: bool, keys: &mut [u64])
+fn write_keys(rects: &[u32], axis: Axis, keys: &mut [u64])
     requires { count rects.now ≤ length keys.old }
-    ensures { Centred rects.now columns keys.new }
+    ensures { Centred rects.now axis keys.new }
 {
     let n = rects.len() / 4;
-    let mut i = 0;
-    while i < n {
-        keys[i] = centre2(rects::rect_at(rects, i), columns);
-        i += 1;
+    for i in 0..n {
+        keys[i] = centre2(rects::rect_at(rects, i), axis);
     }
 }
 
 // The doubled centres of the boxes, and the boxes in the order of those.
-fn arrange(rects: &[u32], columns: bool, order: &mut [u32], work: &mut [u32], keys: &mut [u64])
+fn arrange(rects: &[u32], axis: Axis, order: &mut [u32], work: &mut [u32], keys: &mut [u64])
     requires { SortRoom (count rects.now) order.old work.old keys.old }
-    ensures { Centred rects.now columns keys.new × InOrder (count rects.now) keys.new order.new
+    ensures { Centred rects.now axis keys.new × InOrder (count rects.now) keys.new order.new
         × (drop (count rects.now) order.new ≡ drop (count rects.now) order.old) }
 {
     let n = rects.len() / 4;
-    write_keys(rects, columns, keys);
+    write_keys(rects, axis, keys);
     sorted::arrange(keys, n, order, work);
-}
-
-// The first place behind k that is to be tried, where those before `from` are in one set with k.
-fn first_untried(k: usize, from: usize) -> usize
-    requires { k < 2 ^ 32 }
-    ensures { result ≡ max from (k + 1) }
-{
-    if k < from { from } else { k + 1 }
 }
 
 // The place up to which all are in one set: none, unless the whole row was.
@@ -80,27 +76,26 @@ fn join_row(
     let width = box_widths::size_at(rects, i);
     let last = keys[i] + limit;
     let mut whole = true;
-    let mut l = first_untried(k, from);
-    while l < n {
+    // Behind k, the first that is not known to be in one set with it.
+    for l in from.max(k + 1)..n {
         let j = order[l] as usize;
         if last < keys[j] {
             return known_to(whole, l);
         }
         let other = box_widths::size_at(rects, j);
         whole = box_widths::join_similar(parents, n, i, j, width, other) & whole;
-        l += 1;
         if other == width {
-            return known_to(whole, l);
+            return known_to(whole, l + 1);
         }
     }
-    known_to(whole, l)
+    known_to(whole, n)
 }
 
-// Joins every two boxes of similar widths whose doubled centre is near: that of columns, or else that of rows.
+// Joins every two boxes of similar widths whose doubled centre along the axis is near.
 pub fn join_near(
     rects: &[u32],
     limit: u64,
-    columns: bool,
+    axis: Axis,
     parents: &mut [u32],
     order: &mut [u32],
     work: &mut [u32],
@@ -108,15 +103,13 @@ pub fn join_near(
 )
     requires { (limit < 2 ^ 40) × PassedBoxes rects.now × SortRoom (count rects.now) order.old work.old keys.old
         × JoinedSo rects.now limit (λ i j. ⊥) parents.old }
-    ensures { JoinedNear rects.now limit columns parents.old parents.new
+    ensures { JoinedNear rects.now limit axis parents.old parents.new
         × (drop (count rects.now) order.new ≡ drop (count rects.now) order.old) }
 {
     let n = rects.len() / 4;
-    arrange(rects, columns, order, work, keys);
+    arrange(rects, axis, order, work, keys);
     let mut known = 0;
-    let mut k = 0;
-    while k < n {
+    for k in 0..n {
         known = join_row(rects, limit, order, keys, parents, k, known);
-        k += 1;
     }
 }

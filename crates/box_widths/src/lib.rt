@@ -10,17 +10,11 @@ ghost use Rattle.box_widths.specs.Steps.{PassedBoxes};
 
 use rects::Rect;
 
-fn distance(a: u32, b: u32) -> u32
-    ensures { result ≡ distance a b }
-{
-    if a < b { b - a } else { a - b }
-}
-
 // Do two widths differ by at most 0.3 * the larger? Widths are whole, so their difference is exact.
 fn similar(a: u32, b: u32) -> bool
     ensures { result ≡ similar a b }
 {
-    distance(a, b) as f64 <= 0.3 * rects::greatest(a, b) as f64
+    f64::from(a.abs_diff(b)) <= 0.3 * f64::from(a.max(b))
 }
 
 // What is compared of two boxes: the width alone.

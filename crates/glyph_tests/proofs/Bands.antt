@@ -7,6 +7,7 @@ use Rattle.math.specs.Select.{minimum_number}
 use Rattle.math.specs.Sum.{whole}
 use Rattle.rects.specs.Rects.{width_of, height_of}
 use Rattle.rects.specs.declared.Rect.{Rect}
+use Rattle.ink.specs.declared.Lines.TheVariants.{Rows, Columns}
 use Rattle.ink.specs.Ink.{Ink, row_ink, column_ink}
 use Rattle.ink.specs.Steps.{Readable}
 use Rattle.ink.proofs.Counts.{some_any, readable_inside}
@@ -42,28 +43,28 @@ from_end p a b tol h =
     (λ e l. (max (b - e) a - max (b - tol) a, omega arith, omega arith))
 
 module _ (ink : Ink) (f : Rect) (tol : ℕ) where
-  top_share : f.y0 ≤ f.y1 → line_share ink (top_band f tol) false ≡ run_share (top_edge ink f tol) (width_of f)
+  top_share : f.y0 ≤ f.y1 → line_share ink (top_band f tol) Columns ≡ run_share (top_edge ink f tol) (width_of f)
   unfolding line_share column_ink
   top_share h =
       ap (λ (n : ℕ). div binary64 (whole n) (whole (width_of f)))
       (longest_same (λ k. ltb 0 (column_ink ink (top_band f tol) k)) (top_edge ink f tol) (width_of f)
       (λ i. some_any (λ j. ink (f.x0 + i) (f.y0 + j)) (below (height_of (top_band f tol))) ∙ from_start (λ y. ink (f.x0 + i) y) f.y0 f.y1 tol h))
 
-  bottom_share : f.y0 ≤ f.y1 → line_share ink (bottom_band f tol) false ≡ run_share (bottom_edge ink f tol) (width_of f)
+  bottom_share : f.y0 ≤ f.y1 → line_share ink (bottom_band f tol) Columns ≡ run_share (bottom_edge ink f tol) (width_of f)
   unfolding line_share column_ink
   bottom_share h =
       ap (λ (n : ℕ). div binary64 (whole n) (whole (width_of f)))
       (longest_same (λ k. ltb 0 (column_ink ink (bottom_band f tol) k)) (bottom_edge ink f tol) (width_of f)
       (λ i. some_any (λ j. ink (f.x0 + i) (max (f.y1 - tol) f.y0 + j)) (below (height_of (bottom_band f tol))) ∙ from_end (λ y. ink (f.x0 + i) y) f.y0 f.y1 tol h))
 
-  left_share : f.x0 ≤ f.x1 → line_share ink (left_band f tol) true ≡ run_share (left_edge ink f tol) (height_of f)
+  left_share : f.x0 ≤ f.x1 → line_share ink (left_band f tol) Rows ≡ run_share (left_edge ink f tol) (height_of f)
   unfolding line_share row_ink
   left_share h =
       ap (λ (n : ℕ). div binary64 (whole n) (whole (height_of f)))
       (longest_same (λ k. ltb 0 (row_ink ink (left_band f tol) k)) (left_edge ink f tol) (height_of f)
       (λ j. some_any (λ i. ink (f.x0 + i) (f.y0 + j)) (below (width_of (left_band f tol))) ∙ from_start (λ x. ink x (f.y0 + j)) f.x0 f.x1 tol h))
 
-  right_share : f.x0 ≤ f.x1 → line_share ink (right_band f tol) true ≡ run_share (right_edge ink f tol) (height_of f)
+  right_share : f.x0 ≤ f.x1 → line_share ink (right_band f tol) Rows ≡ run_share (right_edge ink f tol) (height_of f)
   unfolding line_share row_ink
   right_share h =
       ap (λ (n : ℕ). div binary64 (whole n) (whole (height_of f)))
@@ -71,8 +72,8 @@ module _ (ink : Ink) (f : Rect) (tol : ℕ) where
       (λ j. some_any (λ i. ink (max (f.x1 - tol) f.x0 + i) (f.y0 + j)) (below (width_of (right_band f tol))) ∙ from_end (λ x. ink x (f.y0 + j)) f.x0 f.x1 tol h))
 
   -- the least of the shares of the four bands is the edge coverage
-  pub edges_are : f.x0 ≤ f.x1 → f.y0 ≤ f.y1 → {t b l r m m' m'' : Float} → t ≡ line_share ink (top_band f tol) false → b ≡ line_share ink (bottom_band f tol) false
-      → l ≡ line_share ink (left_band f tol) true → r ≡ line_share ink (right_band f tol) true → m ≡ minimum_number t b → m' ≡ minimum_number m l → m'' ≡ minimum_number m' r
+  pub edges_are : f.x0 ≤ f.x1 → f.y0 ≤ f.y1 → {t b l r m m' m'' : Float} → t ≡ line_share ink (top_band f tol) Columns → b ≡ line_share ink (bottom_band f tol) Columns
+      → l ≡ line_share ink (left_band f tol) Rows → r ≡ line_share ink (right_band f tol) Rows → m ≡ minimum_number t b → m' ≡ minimum_number m l → m'' ≡ minimum_number m' r
       → m'' ≡ edge_coverage ink f tol
   unfolding edge_coverage
   edges_are x y t b l r m m' m'' =

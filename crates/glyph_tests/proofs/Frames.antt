@@ -11,24 +11,23 @@ use Rattle.ink.specs.Steps.{Readable}
 use Rattle.ink.specs.Places.{over, first_place, last_end}
 use Rattle.ink.proofs.Counts.{readable_inside}
 use Rattle.ink.proofs.Places.{last_is, first_before_end}
-use Rattle.glyph_tests.specs.declared.frame.Framed.{Framed}
-use Rattle.glyph_tests.specs.declared.frame.Framed.TheVariants.{Nothing, Frame}
+use Rattle.std.specs.Prelude.{Option, Some, None}
 use Rattle.glyph_tests.specs.Tests.{row_over, column_over, top_of, bottom_of, left_of, right_of, has_frame, frame_of}
 use Rattle.glyph_tests.specs.Steps.{framed_of}
 
 module _ (ink : Ink) (fraction : Float) (r : Rect) where
   -- what the searches find, with the width or the height as it was computed
-  pub top_is : {n k : ℕ} → n ≡ width_of r → k ≡ first_place (λ j. over (mul binary64 fraction (whole n)) (row_ink ink r j)) (height_of r) → k ≡ top_of ink fraction r
-  top_is e f = f ∙ ap (λ (n : ℕ). first_place (λ j. over (mul binary64 fraction (whole n)) (row_ink ink r j)) (height_of r)) e
+  pub top_is : {n k : ℕ} {x : Float} → x ≡ whole n → n ≡ width_of r → k ≡ first_place (λ j. over (mul binary64 fraction x) (row_ink ink r j)) (height_of r) → k ≡ top_of ink fraction r
+  top_is d e f = f ∙ ap (λ (x : Float). first_place (λ j. over (mul binary64 fraction x) (row_ink ink r j)) (height_of r)) (d ∙ ap whole e)
 
-  pub bottom_is : {n k : ℕ} → n ≡ width_of r → k ≡ last_end (λ j. over (mul binary64 fraction (whole n)) (row_ink ink r j)) (height_of r) → k ≡ bottom_of ink fraction r
-  bottom_is e f = f ∙ ap (λ (n : ℕ). last_end (λ j. over (mul binary64 fraction (whole n)) (row_ink ink r j)) (height_of r)) e
+  pub bottom_is : {n k : ℕ} {x : Float} → x ≡ whole n → n ≡ width_of r → k ≡ last_end (λ j. over (mul binary64 fraction x) (row_ink ink r j)) (height_of r) → k ≡ bottom_of ink fraction r
+  bottom_is d e f = f ∙ ap (λ (x : Float). last_end (λ j. over (mul binary64 fraction x) (row_ink ink r j)) (height_of r)) (d ∙ ap whole e)
 
-  pub left_is : {n k : ℕ} → n ≡ height_of r → k ≡ first_place (λ i. over (mul binary64 fraction (whole n)) (column_ink ink r i)) (width_of r) → k ≡ left_of ink fraction r
-  left_is e f = f ∙ ap (λ (n : ℕ). first_place (λ i. over (mul binary64 fraction (whole n)) (column_ink ink r i)) (width_of r)) e
+  pub left_is : {n k : ℕ} {x : Float} → x ≡ whole n → n ≡ height_of r → k ≡ first_place (λ i. over (mul binary64 fraction x) (column_ink ink r i)) (width_of r) → k ≡ left_of ink fraction r
+  left_is d e f = f ∙ ap (λ (x : Float). first_place (λ i. over (mul binary64 fraction x) (column_ink ink r i)) (width_of r)) (d ∙ ap whole e)
 
-  pub right_is : {n k : ℕ} → n ≡ height_of r → k ≡ last_end (λ i. over (mul binary64 fraction (whole n)) (column_ink ink r i)) (width_of r) → k ≡ right_of ink fraction r
-  right_is e f = f ∙ ap (λ (n : ℕ). last_end (λ i. over (mul binary64 fraction (whole n)) (column_ink ink r i)) (width_of r)) e
+  pub right_is : {n k : ℕ} {x : Float} → x ≡ whole n → n ≡ height_of r → k ≡ last_end (λ i. over (mul binary64 fraction x) (column_ink ink r i)) (width_of r) → k ≡ right_of ink fraction r
+  right_is d e f = f ∙ ap (λ (x : Float). last_end (λ i. over (mul binary64 fraction x) (column_ink ink r i)) (width_of r)) (d ∙ ap whole e)
 
   -- where there is a first line, the last stands no earlier, and inside
   pub rows_ordered : top_of ink fraction r < height_of r → (top_of ink fraction r < bottom_of ink fraction r) × (bottom_of ink fraction r ≤ height_of r)
@@ -39,11 +38,11 @@ module _ (ink : Ink) (fraction : Float) (r : Rect) where
 
   -- ---- the three ways out
 
-  pub no_row : {top h : ℕ} → top ≡ top_of ink fraction r → h ≡ height_of r → h ≤ top → Nothing ≡ framed_of ink fraction r
+  pub no_row : {top h : ℕ} → top ≡ top_of ink fraction r → h ≡ height_of r → h ≤ top → None ≡ framed_of ink fraction r
   unfolding framed_of has_frame
   no_row e f l = let t = le-ltb (top_of ink fraction r) (height_of r) (omega arith) in simp t
 
-  pub no_column : {top h left w : ℕ} → top ≡ top_of ink fraction r → h ≡ height_of r → top < h → left ≡ left_of ink fraction r → w ≡ width_of r → w ≤ left → Nothing ≡ framed_of ink fraction r
+  pub no_column : {top h left w : ℕ} → top ≡ top_of ink fraction r → h ≡ height_of r → top < h → left ≡ left_of ink fraction r → w ≡ width_of r → w ≤ left → None ≡ framed_of ink fraction r
   unfolding framed_of has_frame
   no_column e f l g k m =
       let s = lt-ltb (top_of ink fraction r) (height_of r) (omega arith) in
@@ -52,28 +51,28 @@ module _ (ink : Ink) (fraction : Float) (r : Rect) where
 
   pub framed : {top h left w bottom right : ℕ} → top ≡ top_of ink fraction r → h ≡ height_of r → top < h → left ≡ left_of ink fraction r → w ≡ width_of r → left < w
       → bottom ≡ bottom_of ink fraction r → right ≡ right_of ink fraction r
-      → Frame (record { x0 = r.x0 + left; y0 = r.y0 + top; x1 = r.x0 + (right - 1); y1 = r.y0 + (bottom - 1) }) ≡ framed_of ink fraction r
+      → Some (record { x0 = r.x0 + left; y0 = r.y0 + top; x1 = r.x0 + (right - 1); y1 = r.y0 + (bottom - 1) }) ≡ framed_of ink fraction r
   unfolding framed_of has_frame frame_of
   framed {top} {h} {left} {w} {bottom} {right} e f l g k m b c =
       let s = lt-ltb (top_of ink fraction r) (height_of r) (omega arith) in
       let t = lt-ltb (left_of ink fraction r) (width_of r) (omega arith) in
-      ap {B = Framed} (λ (q : Rect). Frame q) (λ i. record { x0 = r.x0 + g i; y0 = r.y0 + e i; x1 = r.x0 + (c i - 1); y1 = r.y0 + (b i - 1) }) ∙ simp (s, t)
+      ap {B = Option Rect} (λ (q : Rect). Some q) (λ i. record { x0 = r.x0 + g i; y0 = r.y0 + e i; x1 = r.x0 + (c i - 1); y1 = r.y0 + (b i - 1) }) ∙ simp (s, t)
 
   -- ---- what an answer says
 
-  pub frameless : {f : Framed} → f ≡ framed_of ink fraction r → f ≡ Nothing → has_frame ink fraction r ≡ false
+  pub frameless : {f : Option Rect} → f ≡ framed_of ink fraction r → f ≡ None → has_frame ink fraction r ≡ false
   unfolding framed_of
   frameless e n = go (has_frame ink fraction r) (frame_of ink fraction r) (sym e ∙ n)
     where
-      go : (b : Bool) (g : Rect) → cond b (Frame g) Nothing ≡ Nothing → b ≡ false
+      go : (b : Bool) (g : Rect) → cond b (Some g) None ≡ None → b ≡ false
       go true g h = absurd (let z : ◌≡◌ {A = ℕ} 0 1 = cc in omega arith)
       go false g h = refl
 
-  pub has_one : {f : Framed} {g : Rect} → f ≡ framed_of ink fraction r → f ≡ Frame g → (has_frame ink fraction r ≡ true) × (g ≡ frame_of ink fraction r)
+  pub has_one : {f : Option Rect} {g : Rect} → f ≡ framed_of ink fraction r → f ≡ Some g → (has_frame ink fraction r ≡ true) × (g ≡ frame_of ink fraction r)
   unfolding framed_of
   has_one {f} {g} e n = go (has_frame ink fraction r) (frame_of ink fraction r) (sym e ∙ n)
     where
-      go : (b : Bool) (q : Rect) → cond b (Frame q) Nothing ≡ Frame g → (b ≡ true) × (g ≡ q)
+      go : (b : Bool) (q : Rect) → cond b (Some q) None ≡ Some g → (b ≡ true) × (g ≡ q)
       go true q h = (refl, cc)
       go false q h = absurd (let z : ◌≡◌ {A = ℕ} 0 1 = cc in omega arith)
 

@@ -9,7 +9,7 @@ use Rattle.rects.specs.Rects.{width_of, height_of}
 use Rattle.rects.specs.declared.Rect.{Rect}
 use Rattle.ink.specs.Ink.{Ink}
 use Rattle.glyph_tests.specs.declared.limits.Limits.{Limits}
-use Rattle.glyph_tests.specs.declared.found.Found.TheVariants.{PassedOver}
+use Rattle.std.specs.Prelude.{None}
 use Rattle.glyph_tests.specs.Tests.{size_missed}
 use Rattle.glyph_tests.specs.Steps.{found_of}
 use Rattle.glyph_tests.proofs.Tests.{by_loose_size}
@@ -42,5 +42,5 @@ size_narrow w h least most e = simp e
 pub below_whole_part : (x : Float) (n : ℕ) → n ≤ 8192 → n < to_unsigned 64 x → lt (whole n) x ≡ true
 below_whole_part x n small h = below_cast 64 (whole n) x n (whole_value n (omega arith)) h
 
-pub narrow_passed : (ink : Ink) (l : Limits) (r : Rect) → lt (whole (width_of r)) l.min_size ≡ true → PassedOver ≡ found_of ink l r
+pub narrow_passed : (ink : Ink) (l : Limits) (r : Rect) → lt (whole (width_of r)) l.min_size ≡ true → None ≡ found_of ink l r
 narrow_passed ink l r h = by_loose_size ink l r (size_narrow (width_of r) (height_of r) l.min_size l.slack h)

@@ -6,8 +6,7 @@ use Rattle.rects.specs.declared.Rect.{Rect}
 use Rattle.ink.specs.Ink.{Ink}
 use Rattle.glyph_tests.specs.declared.limits.Limits.{Limits}
 use Rattle.glyph_tests.specs.declared.found.CheckBox.{CheckBox}
-use Rattle.glyph_tests.specs.declared.found.Found.{Found}
-use Rattle.glyph_tests.specs.declared.found.Found.TheVariants.{PassedOver, Box}
+use Rattle.std.specs.Prelude.{Option, Some, None}
 use Rattle.glyph_tests.specs.Tests.{size_missed, has_frame, aspect_missed, edge_coverage, inner_ink, mark_of}
 use Rattle.glyph_tests.specs.Glyph.{frame_missed, box_in, passed_over, trimmed}
 use Rattle.glyph_tests.specs.Steps.{found_in, found_of}
@@ -26,15 +25,15 @@ module _ (ink : Ink) (l : Limits) (f : Rect) where
   abbrev aspect : Bool
   aspect = aspect_missed (width_of f) (height_of f) l.box_aspect_tol
 
-  pub by_size : size ≡ true → PassedOver ≡ found_in ink l f
+  pub by_size : size ≡ true → None ≡ found_in ink l f
   unfolding found_in frame_missed
   by_size a = simp a
 
-  pub by_aspect : size ≡ false → aspect ≡ true → PassedOver ≡ found_in ink l f
+  pub by_aspect : size ≡ false → aspect ≡ true → None ≡ found_in ink l f
   unfolding found_in frame_missed
   by_aspect a b = simp (a, b)
 
-  pub by_edges : size ≡ false → aspect ≡ false → {c : Float} → c ≡ edge_coverage ink f l.box_tolerance_px → lt c l.box_edge_coverage ≡ true → PassedOver ≡ found_in ink l f
+  pub by_edges : size ≡ false → aspect ≡ false → {c : Float} → c ≡ edge_coverage ink f l.box_tolerance_px → lt c l.box_edge_coverage ≡ true → None ≡ found_in ink l f
   unfolding found_in frame_missed
   by_edges a b e t =
       let d : lt (edge_coverage ink f l.box_tolerance_px) l.box_edge_coverage ≡ true = sym (ap (λ (c : Float). lt c l.box_edge_coverage) e) ∙ t in
@@ -47,28 +46,28 @@ module _ (ink : Ink) (l : Limits) (f : Rect) where
     full : {v : Bool} → lt l.box_max_inner_ink i ≡ v → lt l.box_max_inner_ink (inner_ink ink f) ≡ v
     full u = sym (ap (λ (i : Float). lt l.box_max_inner_ink i) g) ∙ u
 
-    pub by_ink : lt l.box_max_inner_ink i ≡ true → PassedOver ≡ found_in ink l f
+    pub by_ink : lt l.box_max_inner_ink i ≡ true → None ≡ found_in ink l f
     unfolding found_in frame_missed
     by_ink u = let d = straight in let k = full u in simp (a, b, d, k)
 
     pub is_box : lt l.box_max_inner_ink i ≡ false → {m : ℕ} → m ≡ cond (le l.box_checked_ink i) 1 0
-        → Box (record { bbox = f; mark = m; edge_coverage = c }) ≡ found_in ink l f
+        → Some (record { bbox = f; mark = m; edge_coverage = c }) ≡ found_in ink l f
     unfolding found_in frame_missed box_in
     is_box u {m} n =
         let d = straight in
         let k = full u in
         let n' : m ≡ mark_of ink l f = n ∙ ap (λ (i : Float). cond (le l.box_checked_ink i) 1 0) g in
-        ap {B = Found} (λ (x : CheckBox). Box x) (λ j. record { bbox = f; mark = n' j; edge_coverage = e j }) ∙ simp (a, b, d, k)
+        ap {B = Option CheckBox} (λ (x : CheckBox). Some x) (λ j. record { bbox = f; mark = n' j; edge_coverage = e j }) ∙ simp (a, b, d, k)
 
 module _ (ink : Ink) (l : Limits) (r : Rect) where
   abbrev loose : Bool
   loose = size_missed (width_of r) (height_of r) l.min_size l.slack
 
-  pub by_loose_size : loose ≡ true → PassedOver ≡ found_of ink l r
+  pub by_loose_size : loose ≡ true → None ≡ found_of ink l r
   unfolding found_of passed_over
   by_loose_size a = simp a
 
-  pub by_frame : loose ≡ false → has_frame ink l.box_overshoot_fraction r ≡ false → PassedOver ≡ found_of ink l r
+  pub by_frame : loose ≡ false → has_frame ink l.box_overshoot_fraction r ≡ false → None ≡ found_of ink l r
   unfolding found_of passed_over
   by_frame a b = simp (a, b)
 

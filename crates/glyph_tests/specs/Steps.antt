@@ -1,13 +1,11 @@
 -- What the tests on one glyph box say to each other; not needed to read the contracts.
-use Rattle.std.specs.Prelude.{ℕ, ◌+◌, ◌-◌, min, max, Bool, cond, nat_lt, Float}
+use Rattle.std.specs.Prelude.{ℕ, Option, Some, None, ◌+◌, ◌-◌, min, max, cond, nat_lt, Float}
 use Rattle.rects.specs.declared.Rect.{Rect}
+use Rattle.ink.specs.declared.Lines.{Lines}
 use Rattle.ink.specs.Ink.{Ink}
 use Rattle.ink.specs.Steps.{lines_of, line_ink}
 use Rattle.glyph_tests.specs.declared.limits.Limits.{Limits}
-use Rattle.glyph_tests.specs.declared.found.Found.{Found}
-use Rattle.glyph_tests.specs.declared.found.Found.TheVariants.{PassedOver, Box}
-use Rattle.glyph_tests.specs.declared.frame.Framed.{Framed}
-use Rattle.glyph_tests.specs.declared.frame.Framed.TheVariants.{Nothing, Frame}
+use Rattle.glyph_tests.specs.declared.found.CheckBox.{CheckBox}
 use Rattle.glyph_tests.specs.Tests.{has_frame, frame_of, run_share}
 use Rattle.glyph_tests.specs.Glyph.{frame_missed, box_in, passed_over, box_of}
 
@@ -25,17 +23,17 @@ abbrev pub right_band : Rect → ℕ → Rect
 right_band f tol = record { x0 = max (f.x1 - tol) f.x0; y0 = f.y0; x1 = f.x1; y1 = f.y1 }
 
 -- The longest unbroken run of lines with ink, as a share of the lines.
-unfoldable pub line_share : Ink → Rect → Bool → Float
-line_share ink r rows = run_share (λ k. nat_lt 0 (line_ink ink r rows k)) (lines_of r rows)
+unfoldable pub line_share : Ink → Rect → Lines → Float
+line_share ink r lines = run_share (λ k. nat_lt 0 (line_ink ink r lines k)) (lines_of r lines)
 
 -- The frame of a glyph box, where it has one.
-unfoldable pub framed_of : Ink → Float → Rect → Framed
-framed_of ink fraction r = cond (has_frame ink fraction r) (Frame (frame_of ink fraction r)) Nothing
+unfoldable pub framed_of : Ink → Float → Rect → Option Rect
+framed_of ink fraction r = cond (has_frame ink fraction r) (Some (frame_of ink fraction r)) None
 
 -- What the tests on a frame say.
-unfoldable pub found_in : Ink → Limits → Rect → Found
-found_in ink l f = cond (frame_missed ink l f) PassedOver (Box (box_in ink l f))
+unfoldable pub found_in : Ink → Limits → Rect → Option CheckBox
+found_in ink l f = cond (frame_missed ink l f) None (Some (box_in ink l f))
 
 -- What all tests on a glyph box say.
-unfoldable pub found_of : Ink → Limits → Rect → Found
-found_of ink l r = cond (passed_over ink l r) PassedOver (Box (box_of ink l r))
+unfoldable pub found_of : Ink → Limits → Rect → Option CheckBox
+found_of ink l r = cond (passed_over ink l r) None (Some (box_of ink l r))

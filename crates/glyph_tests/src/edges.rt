@@ -6,15 +6,8 @@ ghost use Rattle.ink.specs.Steps.{Readable};
 ghost use Rattle.glyph_tests.specs.Tests.{edge_coverage};
 ghost use Rattle.glyph_tests.specs.Steps.{top_band, bottom_band, left_band, right_band, line_share};
 
+use ink::Lines;
 use rects::Rect;
-
-// a less k, and not below the floor.
-fn less(a: u32, k: u32, floor: u32) -> u32
-    requires { floor ≤ a }
-    ensures { result ≡ Prim.Native.Nat.max (a - k) floor }
-{
-    if a - floor < k { floor } else { a - k }
-}
 
 fn top_band(f: Rect, tol: u32) -> Rect
     requires { f.y0 + tol < 2 ^ 32 }
@@ -24,7 +17,7 @@ fn top_band(f: Rect, tol: u32) -> Rect
         x0: f.x0,
         y0: f.y0,
         x1: f.x1,
-        y1: rects::least(f.y0 + tol, f.y1),
+        y1: (f.y0 + tol).min(f.y1),
     }
 }
 
@@ -34,7 +27,7 @@ fn bottom_band(f: Rect, tol: u32) -> Rect
 {
     Rect {
         x0: f.x0,
-        y0: less(f.y1, tol, f.y0),
+        y0: f.y1.saturating_sub(tol).max(f.y0),
         x1: f.x1,
         y1: f.y1,
     }
@@ -47,7 +40,7 @@ fn left_band(f: Rect, tol: u32) -> Rect
     Rect {
         x0: f.x0,
         y0: f.y0,
-        x1: rects::least(f.x0 + tol, f.x1),
+        x1: (f.x0 + tol).min(f.x1),
         y1: f.y1,
     }
 }
@@ -57,7 +50,7 @@ fn right_band(f: Rect, tol: u32) -> Rect
     ensures { result ≡ right_band f tol }
 {
     Rect {
-        x0: less(f.x1, tol, f.x0),
+        x0: f.x1.saturating_sub(tol).max(f.x0),
         y0: f.y0,
         x1: f.x1,
         y1: f.y1,
@@ -65,21 +58,21 @@ fn right_band(f: Rect, tol: u32) -> Rect
 }
 
 // The longest unbroken run of lines of a band that have ink, as a share of them.
-fn share(mask: &[u8], w: usize, band: Rect, rows: bool) -> f64
+fn share(mask: &[u8], w: usize, band: Rect, lines: Lines) -> f64
     requires { Readable mask.now w band }
-    ensures { result ≡ line_share (ink_at w mask.now) band rows }
+    ensures { result ≡ line_share (ink_at w mask.now) band lines }
 {
-    let best = ink_lines::longest(mask, w, band, rows);
-    best as f64 / ink_lines::lines_of(band, rows) as f64
+    let best = ink_lines::longest(mask, w, band, lines);
+    f64::from(best) / f64::from(ink_lines::lines_of(band, lines))
 }
 
 pub fn edge_coverage(mask: &[u8], w: usize, f: Rect, tol: u32) -> f64
     requires { Readable mask.now w f × (tol ≤ 3) }
     ensures { result ≡ edge_coverage (ink_at w mask.now) f tol }
 {
-    let top = share(mask, w, top_band(f, tol), false);
-    let bottom = share(mask, w, bottom_band(f, tol), false);
-    let left = share(mask, w, left_band(f, tol), true);
-    let right = share(mask, w, right_band(f, tol), true);
+    let top = share(mask, w, top_band(f, tol), Lines::Columns);
+    let bottom = share(mask, w, bottom_band(f, tol), Lines::Columns);
+    let left = share(mask, w, left_band(f, tol), Lines::Rows);
+    let right = share(mask, w, right_band(f, tol), Lines::Rows);
     select::min(select::min(select::min(top, bottom), left), right)
 }

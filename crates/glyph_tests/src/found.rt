@@ -4,7 +4,6 @@ ghost use Rattle.ink.specs.Ink.{ink_at};
 ghost use Rattle.ink.specs.Steps.{Readable};
 ghost use Rattle.glyph_tests.specs.Steps.{found_in, found_of};
 
-use crate::frame::Framed;
 use crate::limits::Limits;
 use rects::Rect;
 
@@ -16,34 +15,28 @@ pub struct CheckBox {
     pub edge_coverage: f64,
 }
 
-#[derive(Clone, Copy)]
-pub enum Found {
-    PassedOver,
-    Box(CheckBox),
-}
-
-// The tests on the frame.
-fn test_frame(mask: &[u8], w: usize, f: Rect, l: Limits) -> Found
+// The tests on the frame: none where it is passed over.
+fn test_frame(mask: &[u8], w: usize, f: Rect, l: Limits) -> Option<CheckBox>
     requires { Readable mask.now w f × (l.box_tolerance_px ≤ 3) }
     ensures { result ≡ found_in (ink_at w mask.now) l f }
 {
     let width = f.width();
     let height = f.height();
     if crate::sizes::size_missed(width, height, l.min_side, l.max_side) {
-        return Found::PassedOver;
+        return None;
     }
     if crate::sizes::aspect_missed(width, height, l.box_aspect_tol) {
-        return Found::PassedOver;
+        return None;
     }
     let edge_coverage = crate::edges::edge_coverage(mask, w, f, l.box_tolerance_px);
     if edge_coverage < l.box_edge_coverage {
-        return Found::PassedOver;
+        return None;
     }
     let inner = crate::inner::inner_ink(mask, w, f);
     if inner > l.box_max_inner_ink {
-        return Found::PassedOver;
+        return None;
     }
-    Found::Box(CheckBox {
+    Some(CheckBox {
         bbox: f,
         mark: crate::inner::mark_of(inner, l.box_checked_ink),
         edge_coverage,
@@ -51,16 +44,13 @@ fn test_frame(mask: &[u8], w: usize, f: Rect, l: Limits) -> Found
 }
 
 // The glyph box may be bigger than the box in it (a tick that overshoots it), so its own size test is loose, and the real one is on the frame.
-pub fn test_glyph(mask: &[u8], w: usize, r: Rect, l: Limits) -> Found
+pub fn test_glyph(mask: &[u8], w: usize, r: Rect, l: Limits) -> Option<CheckBox>
     requires { Readable mask.now w r × (l.box_tolerance_px ≤ 3) }
     ensures { result ≡ found_of (ink_at w mask.now) l r }
 {
     if crate::sizes::size_missed(r.width(), r.height(), l.min_size, l.slack) {
-        return Found::PassedOver;
+        return None;
     }
-    let framed = crate::frame::frame_of(mask, w, r, l.box_overshoot_fraction);
-    match framed {
-        Framed::Nothing => Found::PassedOver,
-        Framed::Frame(f) => test_frame(mask, w, f, l),
-    }
+    let f = crate::frame::frame_of(mask, w, r, l.box_overshoot_fraction)?;
+    test_frame(mask, w, f, l)
 }

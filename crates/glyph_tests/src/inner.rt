@@ -35,12 +35,12 @@ pub fn inner_ink(mask: &[u8], w: usize, f: Rect) -> f64
     let half = inner_half(f);
     let inked = ink::read::ink_in(mask, w, half);
     let total = half.width() * half.height();
-    inked as f64 / total as f64
+    f64::from(inked) / f64::from(total)
 }
 
 // 1 ticked, 0 empty.
 pub fn mark_of(inner: f64, checked: f64) -> u32
     ensures { result ≡ (if le checked inner then 1 else 0) }
 {
-    if inner >= checked { 1 } else { 0 }
+    u32::from(inner >= checked)
 }

@@ -23,7 +23,7 @@ pub fn limits_of(dpi: u16, xheight: f64, p: RulingsParams) -> Limits
 {
     let min_size = p.box_min_xh * xheight;
     // A box is at least this many pixels on a side: round letters pass the other tests at 8 px.
-    let min_px = p.box_min_in * dpi as f64;
+    let min_px = p.box_min_in * f64::from(dpi);
     Limits {
         min_size,
         slack: 1.6 * p.box_max_xh * xheight,

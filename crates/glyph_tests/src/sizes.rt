@@ -7,8 +7,8 @@ ghost use Rattle.glyph_tests.specs.Tests.{size_missed, aspect_missed};
 pub fn size_missed(width: u32, height: u32, least: f64, most: f64) -> bool
     ensures { result ≡ size_missed width height least most }
 {
-    let w = width as f64;
-    let h = height as f64;
+    let w = f64::from(width);
+    let h = f64::from(height);
     if w < least {
         return true;
     }
@@ -24,8 +24,8 @@ pub fn size_missed(width: u32, height: u32, least: f64, most: f64) -> bool
 pub fn aspect_missed(width: u32, height: u32, tolerance: f64) -> bool
     ensures { result ≡ aspect_missed width height tolerance }
 {
-    let w = width as f64;
-    let h = height as f64;
+    let w = f64::from(width);
+    let h = f64::from(height);
     select::abs(w - h) > tolerance * select::max(w, h)
 }
 

@@ -9,14 +9,12 @@ pub fn choose(members: &[u32], ends: &[u32], count: usize, least: u32, numbers: 
     ensures { Chose least (members_of members.now ends.now count) count numbers.old numbers.new result }
 {
     let mut grids = 0;
-    let mut k = 0;
-    while k < count {
+    for k in 0..count {
         let set = listings::members_of(members, ends, count, k);
         if least as usize <= set.len() {
             numbers[grids] = k as u32;
             grids += 1;
         }
-        k += 1;
     }
     grids
 }

@@ -7,6 +7,7 @@ use native.Mathlib.Nat.{suc-mul, mul-le-mul_right, le_trans}
 use native.Mathlib.Numerals.{add-one}
 use native.Mathlib.Omega.{arith}
 use lib.Dec.{eqb, ltb}
+use Rattle.std.specs.Int.{from_bool}
 use borrow.Author.Tests.{lt-ltb, le-ltb}
 use lib.ListN.{length, get_or, take, drop, length-append, length-drop}
 use lib.Seq.{length-take-le, get_or-take, get_or-drop}
@@ -15,21 +16,23 @@ use Rattle.lists.proofs.Keep.{keep_append, keep_below_same, length_below, true_a
 use Rattle.lists.proofs.Sizes.{keep_size_le, keep_none}
 use Rattle.rects.specs.Rects.{width_of, height_of}
 use Rattle.rects.specs.declared.Rect.{Rect}
+use Rattle.ink.specs.declared.Lines.{Lines}
+use Rattle.ink.specs.declared.Lines.TheVariants.{Rows, Columns}
 use Rattle.ink.specs.Ink.{Ink, ink_at, many, row_ink, ink_in_rows}
 use Rattle.ink.specs.Steps.{lines_of, Readable}
 
-pub many_more : (q : ℕ → Bool) (n : ℕ) → many q (suc n) ≡ many q n + cond (q n) 1 0
+pub many_more : (q : ℕ → Bool) (n : ℕ) → many q (suc n) ≡ many q n + from_bool (q n)
 many_more q n = ap length (keep_append q (below n) (n ∷ [])) ∙ length-append (keep q (below n)) (keep q (n ∷ [])) ∙ ap (λ (k : ℕ). many q n + k) (go (q n))
   where
-    go : (b : Bool) → length (cond b (n ∷ []) []) ≡ cond b 1 0
+    go : (b : Bool) → length (cond b (n ∷ []) []) ≡ from_bool b
     go true = refl
     go false = refl
 
 -- the same as a loop meets it
-pub many_next : (q : ℕ → Bool) (i : ℕ) {n o : ℕ} → n ≡ many q i → o ≡ cond (q i) 1 0 → n + o ≡ many q (i + 1)
+pub many_next : (q : ℕ → Bool) (i : ℕ) {n o : ℕ} → n ≡ many q i → o ≡ from_bool (q i) → n + o ≡ many q (i + 1)
 many_next q i e f = rw (add-one i) (omega (arith, many_more q i))
 
-pub one_le : (b : Bool) {o : ℕ} → o ≡ cond b 1 0 → o ≤ 1
+pub one_le : (b : Bool) {o : ℕ} → o ≡ from_bool b → o ≤ 1
 one_le true e = omega arith
 one_le false e = omega arith
 
@@ -112,6 +115,6 @@ rows_next ink r j e f = rw (add-one j) (omega arith)
 
 -- ---- lines
 
-pub lines_le : (mask : List ℕ) (w : ℕ) (r : Rect) → Readable mask w r → (rows : Bool) → lines_of r rows ≤ 8192
-lines_le mask w r R true = omega (arith, R.low)
-lines_le mask w r R false = omega (arith, R.right, R.narrow)
+pub lines_le : (mask : List ℕ) (w : ℕ) (r : Rect) → Readable mask w r → (lines : Lines) → lines_of r lines ≤ 8192
+lines_le mask w r R Rows = omega (arith, R.low)
+lines_le mask w r R Columns = omega (arith, R.right, R.narrow)

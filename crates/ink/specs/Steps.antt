@@ -1,15 +1,19 @@
 -- What the functions of `ink` and `ink_lines` ask and leave; none of it is needed to read the contracts.
-use Rattle.std.specs.Prelude.{Bool, cond, true, false, List, ℕ, suc, ◌+◌, ◌*◌, ◌≤◌, ◌<◌, length, ◌≡◌}
+use Rattle.std.specs.Prelude.{Bool, true, false, List, ℕ, suc, ◌+◌, ◌*◌, ◌≤◌, ◌<◌, length, ◌≡◌}
 use Rattle.rects.specs.Rects.{width_of, height_of}
 use Rattle.rects.specs.declared.Rect.{Rect}
+use Rattle.ink.specs.declared.Lines.{Lines}
+use Rattle.ink.specs.declared.Lines.TheVariants.{Rows, Columns}
 use Rattle.ink.specs.Ink.{Ink, row_ink, column_ink}
 
 -- A line of a rectangle is a row or a column of it: how many there are, how long one is, and its ink.
-abbrev pub lines_of : Rect → Bool → ℕ
-lines_of r rows = cond rows (height_of r) (width_of r)
+abbrev pub lines_of : Rect → Lines → ℕ
+lines_of r Rows = height_of r
+lines_of r Columns = width_of r
 
-abbrev pub line_ink : Ink → Rect → Bool → ℕ → ℕ
-line_ink ink r rows k = cond rows (row_ink ink r k) (column_ink ink r k)
+abbrev pub line_ink : Ink → Rect → Lines → ℕ → ℕ
+line_ink ink r Rows k = row_ink ink r k
+line_ink ink r Columns k = column_ink ink r k
 
 -- An ordered rectangle on a mask of w columns.
 pub record Readable (mask : List ℕ) (w : ℕ) (r : Rect) : Type 0 where

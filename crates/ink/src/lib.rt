@@ -2,3 +2,10 @@
 #![tactic(auto)]
 
 pub mod read;
+
+// Which lines of a rectangle are read.
+#[derive(Clone, Copy)]
+pub enum Lines {
+    Rows,
+    Columns,
+}

@@ -15,22 +15,14 @@ pub fn is_ink(mask: &[u8], w: usize, x: usize, y: usize) -> bool
     mask[y * w + x] != 0
 }
 
-pub fn one(inked: bool) -> u32
-    ensures { result ≡ cond inked 1 0 }
-{
-    if inked { 1 } else { 0 }
-}
-
 // How many bytes of a part of a row are ink.
 fn inked(row: &[u8]) -> u32
     requires { length row.now ≤ 8192 }
     ensures { result ≡ many (λ i. not (eqb (get_or row.now i 0) 0)) (length row.now) }
 {
     let mut n = 0;
-    let mut i = 0;
-    while i < row.len() {
-        n += one(row[i] != 0);
-        i += 1;
+    for b in row {
+        n += u32::from(*b != 0);
     }
     n
 }
@@ -54,10 +46,8 @@ pub fn column_count(mask: &[u8], w: usize, r: Rect, i: u32) -> u32
     let y = r.y0 as usize;
     let rows = r.height() as usize;
     let mut n = 0;
-    let mut j = 0;
-    while j < rows {
-        n += one(is_ink(mask, w, x, y + j));
-        j += 1;
+    for j in 0..rows {
+        n += u32::from(is_ink(mask, w, x, y + j));
     }
     n
 }
@@ -70,12 +60,10 @@ pub fn row_has_ink(mask: &[u8], w: usize, r: Rect, j: u32) -> bool
     let x = r.x0 as usize;
     let y = (r.y0 + j) as usize;
     let columns = r.width() as usize;
-    let mut i = 0;
-    while i < columns {
+    for i in 0..columns {
         if is_ink(mask, w, x + i, y) {
             return true;
         }
-        i += 1;
     }
     false
 }
@@ -88,12 +76,10 @@ pub fn column_has_ink(mask: &[u8], w: usize, r: Rect, i: u32) -> bool
     let x = (r.x0 + i) as usize;
     let y = r.y0 as usize;
     let rows = r.height() as usize;
-    let mut j = 0;
-    while j < rows {
+    for j in 0..rows {
         if is_ink(mask, w, x, y + j) {
             return true;
         }
-        j += 1;
     }
     false
 }
@@ -103,12 +89,9 @@ pub fn ink_in(mask: &[u8], w: usize, r: Rect) -> u32
     requires { Readable mask.now w r }
     ensures { result ≡ ink_in (ink_at w mask.now) r }
 {
-    let rows = r.height();
     let mut n = 0;
-    let mut j = 0;
-    while j < rows {
+    for j in 0..r.height() {
         n += row_count(mask, w, r, j);
-        j += 1;
     }
     n
 }
@@ -117,5 +100,5 @@ pub fn ink_in(mask: &[u8], w: usize, r: Rect) -> u32
 pub fn is_over(limit: f64, n: u32) -> bool
     ensures { result ≡ over limit n }
 {
-    !(n as f64 <= limit)
+    !(f64::from(n) <= limit)
 }

@@ -1,47 +1,18 @@
 -- Bands of columns that are passed over: none of their columns is over the limit.
-use mathlib.Core.Path.{◌≡◌, refl, sym, ap, ◌∙◌}
-use mathlib.Core.Bool.{Bool, true, false, not, ◌||◌, false≢true}
-use Prim.Native.Nat.{ℕ, zero, suc, ◌+◌, ◌-◌, ◌≤◌, ◌<◌}
+use mathlib.Core.Path.{◌≡◌, sym, ap, ◌∙◌}
+use mathlib.Core.Bool.{Bool, false}
+use Prim.Native.Nat.{ℕ, zero, suc, ◌-◌, ◌≤◌, ◌<◌}
 use native.Mathlib.Decide.{dec_lt, ℕ_discrete}
 use native.Mathlib.Omega.{arith}
 use lib.Ieee.{Float}
 use Rattle.rects.specs.declared.Rect.{Rect}
-use Rattle.ink.specs.Ink.{Ink, column_ink}
-use Rattle.ink.specs.Places.{over, first_from, first_place, last_end}
-use Rattle.ink_bands.specs.Steps.{FourColumns, NoneOver}
-use Rattle.ink_bands.specs.declared.Four.{Four}
+use Rattle.ink.specs.Ink.{Ink}
+use Rattle.ink.specs.Places.{first_from, first_place, last_end}
+use Rattle.ink_bands.specs.Steps.{NoneOver}
 use native.Mathlib.Numerals.{add-one}
 use Rattle.ink.proofs.Places.{first_passed, last_earlier}
 
-none_of_four : (o p q s : Bool) → not (o || p || q || s) ≡ true → (o ≡ false) × (p ≡ false) × (q ≡ false) × (s ≡ false)
-none_of_four false false false false e = (refl, refl, refl, refl)
-none_of_four false false false true e = absurd (false≢true e)
-none_of_four false false true s e = absurd (false≢true e)
-none_of_four false true q s e = absurd (false≢true e)
-none_of_four true p q s e = absurd (false≢true e)
-
 module _ (ink : Ink) (r : Rect) (limit : Float) where
-  -- four columns, each tested
-  pub band_none : {i : ℕ} (n : Four) {o p q s : Bool} → FourColumns ink r i n → o ≡ over limit n.a → p ≡ over limit n.b → q ≡ over limit n.c → s ≡ over limit n.d
-      → not (o || p || q || s) ≡ true → NoneOver ink r limit i (i + 4)
-  band_none {i} n {o} {p} {q} {s} F eo ep eq es e k l m =
-      let N = none_of_four o p q s e in
-      elim (ℕ_discrete k i) [
-        | yes h ↦ at h F.first eo N.0
-        | no h0 ↦
-            elim (ℕ_discrete k (i + 1)) [
-              | yes h ↦ at h F.second ep N.1
-              | no h1 ↦
-                  elim (ℕ_discrete k (i + 2)) [
-                    | yes h ↦ at h F.third eq N.2
-                    | no h2 ↦ at (omega arith) F.fourth es N.3
-                  ]
-            ]
-      ]
-    where
-      at : {j x : ℕ} {t : Bool} → k ≡ j → x ≡ column_ink ink r j → t ≡ over limit x → t ≡ false → over limit (column_ink ink r k) ≡ false
-      at h f g z = ap (λ (j : ℕ). over limit (column_ink ink r j)) h ∙ sym (ap (over limit) f) ∙ sym g ∙ z
-
   -- two bands that stand side by side
   pub none_joined : {i j l : ℕ} → NoneOver ink r limit i j → NoneOver ink r limit j l → NoneOver ink r limit i l
   none_joined {i} {j} {l} A B k f t = elim (dec_lt k j) [ yes h ↦ A k f h | no h ↦ B k (omega arith) t ]

@@ -1,4 +1,4 @@
-// The lines of a rectangle, its rows or its columns, as `rows` says: the first and the last over a limit, and the longest run of lines with ink.
+// The lines of a rectangle, its rows or its columns: the first and the last over a limit, and the longest run of lines with ink.
 #![tactic(auto)]
 
 ghost use Rattle.std.specs.Prelude.{◌≡◌, cond, false, ℕ, suc, ◌+◌, ◌^◌, ◌≤◌, ◌<◌, ltb};
@@ -6,110 +6,104 @@ ghost use Rattle.ink.specs.Ink.{ink_at};
 ghost use Rattle.ink.specs.Steps.{lines_of, line_ink, Readable};
 ghost use Rattle.ink.specs.Places.{over, first_place, last_end, longest_run};
 
-use ink::read;
+use ink::{Lines, read};
 use rects::Rect;
 
 // How many lines there are.
-pub fn lines_of(r: Rect, rows: bool) -> u32
+pub fn lines_of(r: Rect, lines: Lines) -> u32
     requires { (r.x0 ≤ r.x1) × (r.y0 ≤ r.y1) × (r.x1 + 1 < 2 ^ 32) × (r.y1 + 1 < 2 ^ 32) }
-    ensures { result ≡ lines_of r rows }
+    ensures { result ≡ lines_of r lines }
 {
-    if rows {
-        return r.height();
+    match lines {
+        Lines::Rows => r.height(),
+        Lines::Columns => r.width(),
     }
-    r.width()
 }
 
 // The ink in line k.
-fn line_count(mask: &[u8], w: usize, r: Rect, rows: bool, k: u32) -> u32
-    requires { Readable mask.now w r × (k < lines_of r rows) }
-    ensures { result ≡ line_ink (ink_at w mask.now) r rows k }
+fn line_count(mask: &[u8], w: usize, r: Rect, lines: Lines, k: u32) -> u32
+    requires { Readable mask.now w r × (k < lines_of r lines) }
+    ensures { result ≡ line_ink (ink_at w mask.now) r lines k }
 {
-    if rows {
-        return read::row_count(mask, w, r, k);
+    match lines {
+        Lines::Rows => read::row_count(mask, w, r, k),
+        Lines::Columns => read::column_count(mask, w, r, k),
     }
-    read::column_count(mask, w, r, k)
 }
 
 // Has line k any ink?
-fn line_has_ink(mask: &[u8], w: usize, r: Rect, rows: bool, k: u32) -> bool
-    requires { Readable mask.now w r × (k < lines_of r rows) }
-    ensures { result ≡ ltb 0 (line_ink (ink_at w mask.now) r rows k) }
+fn line_has_ink(mask: &[u8], w: usize, r: Rect, lines: Lines, k: u32) -> bool
+    requires { Readable mask.now w r × (k < lines_of r lines) }
+    ensures { result ≡ ltb 0 (line_ink (ink_at w mask.now) r lines k) }
 {
-    if rows {
-        return read::row_has_ink(mask, w, r, k);
+    match lines {
+        Lines::Rows => read::row_has_ink(mask, w, r, k),
+        Lines::Columns => read::column_has_ink(mask, w, r, k),
     }
-    read::column_has_ink(mask, w, r, k)
 }
 
 // How many lines may be passed over from the front, since none of them is over the limit: columns are tried in bands.
-fn passed_from_front(mask: &[u8], w: usize, r: Rect, rows: bool, limit: f64) -> u32
+fn passed_from_front(mask: &[u8], w: usize, r: Rect, lines: Lines, limit: f64) -> u32
     requires { Readable mask.now w r }
-    ensures { (result ≤ lines_of r rows) × ((i : ℕ) → i < result → over limit (line_ink (ink_at w mask.now) r rows i) ≡ false) }
+    ensures { (result ≤ lines_of r lines) × ((i : ℕ) → i < result → over limit (line_ink (ink_at w mask.now) r lines i) ≡ false) }
 {
-    if rows {
-        return 0;
+    match lines {
+        Lines::Rows => 0,
+        Lines::Columns => ink_bands::first_columns(mask, w, r, limit),
     }
-    ink_bands::first_columns(mask, w, r, limit)
 }
 
 // Where those begin that may be passed over from the back.
-fn passed_from_back(mask: &[u8], w: usize, r: Rect, rows: bool, limit: f64) -> u32
+fn passed_from_back(mask: &[u8], w: usize, r: Rect, lines: Lines, limit: f64) -> u32
     requires { Readable mask.now w r }
-    ensures { (result ≤ lines_of r rows)
-        × ((i : ℕ) → result ≤ i → i < lines_of r rows → over limit (line_ink (ink_at w mask.now) r rows i) ≡ false) }
+    ensures { (result ≤ lines_of r lines)
+        × ((i : ℕ) → result ≤ i → i < lines_of r lines → over limit (line_ink (ink_at w mask.now) r lines i) ≡ false) }
 {
-    if rows {
-        return r.height();
+    match lines {
+        Lines::Rows => r.height(),
+        Lines::Columns => ink_bands::last_columns(mask, w, r, limit),
     }
-    ink_bands::last_columns(mask, w, r, limit)
 }
 
 // The first line whose ink is over the limit, and the number of lines where none is.
-pub fn first_line(mask: &[u8], w: usize, r: Rect, rows: bool, limit: f64) -> u32
+pub fn first_line(mask: &[u8], w: usize, r: Rect, lines: Lines, limit: f64) -> u32
     requires { Readable mask.now w r }
-    ensures { result ≡ first_place (λ k. over limit (line_ink (ink_at w mask.now) r rows k)) (lines_of r rows) }
+    ensures { result ≡ first_place (λ k. over limit (line_ink (ink_at w mask.now) r lines k)) (lines_of r lines) }
 {
-    let n = lines_of(r, rows);
-    let mut k = passed_from_front(mask, w, r, rows, limit);
-    while k < n {
-        if read::is_over(limit, line_count(mask, w, r, rows, k)) {
+    let n = lines_of(r, lines);
+    let passed = passed_from_front(mask, w, r, lines, limit);
+    for k in passed..n {
+        if read::is_over(limit, line_count(mask, w, r, lines, k)) {
             return k;
         }
-        k += 1;
     }
-    k
+    n
 }
 
 // One more than the last line whose ink is over the limit, and 0 where none is.
-pub fn last_line_end(mask: &[u8], w: usize, r: Rect, rows: bool, limit: f64) -> u32
+pub fn last_line_end(mask: &[u8], w: usize, r: Rect, lines: Lines, limit: f64) -> u32
     requires { Readable mask.now w r }
-    ensures { result ≡ last_end (λ k. over limit (line_ink (ink_at w mask.now) r rows k)) (lines_of r rows) }
+    ensures { result ≡ last_end (λ k. over limit (line_ink (ink_at w mask.now) r lines k)) (lines_of r lines) }
 {
-    let mut end = passed_from_back(mask, w, r, rows, limit);
-    while 0 < end {
-        let last = end - 1;
-        if read::is_over(limit, line_count(mask, w, r, rows, last)) {
-            return end;
+    let end = passed_from_back(mask, w, r, lines, limit);
+    for k in (0..end).rev() {
+        if read::is_over(limit, line_count(mask, w, r, lines, k)) {
+            return k + 1;
         }
-        end = last;
     }
     0
 }
 
 // The longest unbroken run of lines that have ink.
-pub fn longest(mask: &[u8], w: usize, r: Rect, rows: bool) -> u32
+pub fn longest(mask: &[u8], w: usize, r: Rect, lines: Lines) -> u32
     requires { Readable mask.now w r }
-    ensures { result ≡ longest_run (λ k. ltb 0 (line_ink (ink_at w mask.now) r rows k)) (lines_of r rows) }
+    ensures { result ≡ longest_run (λ k. ltb 0 (line_ink (ink_at w mask.now) r lines k)) (lines_of r lines) }
 {
-    let n = lines_of(r, rows);
     let mut best = 0;
     let mut run = 0;
-    let mut k = 0;
-    while k < n {
-        run = longer_run(run, line_has_ink(mask, w, r, rows, k));
-        best = rects::greatest(best, run);
-        k += 1;
+    for k in 0..lines_of(r, lines) {
+        run = longer_run(run, line_has_ink(mask, w, r, lines, k));
+        best = best.max(run);
     }
     best
 }

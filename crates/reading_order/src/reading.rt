@@ -14,11 +14,9 @@ fn set_keys(rects: &[u32], set: &[u32], keys: &mut [u64])
     requires { PassedBoxes rects.now × Indexes (count rects.now) set.now × (length set.now ≤ length keys.old) }
     ensures { keys.new ≡ written (reading_keys rects.now set.now) keys.old }
 {
-    let mut k = 0;
-    while k < set.len() {
-        let r = rects::rect_at(rects, set[k] as usize);
-        keys[k] = r.y0 as u64 * 8192 + r.x0 as u64;
-        k += 1;
+    for (k, i) in set.iter().enumerate() {
+        let r = rects::rect_at(rects, *i as usize);
+        keys[k] = u64::from(r.y0) * 8192 + u64::from(r.x0);
     }
 }
 
@@ -37,10 +35,8 @@ fn put(set: &[u32], order: &[u32], reading: &mut [u32], at: usize)
     ensures { reading.new ≡ sets reading.old at
         (map (λ i. get_or set.now i 0) (take (length set.now) order.now)) }
 {
-    let mut k = 0;
-    while k < set.len() {
+    for k in 0..set.len() {
         reading[at + k] = set[order[k] as usize];
-        k += 1;
     }
 }
 
@@ -82,11 +78,9 @@ pub fn read_sets(
         reading.old }
 {
     let mut at = 0;
-    let mut k = 0;
-    while k < count {
+    for k in 0..count {
         let set = listings::members_of(members, ends, count, k);
         read_set(rects, set, reading, at, order, work, keys);
         at += set.len();
-        k += 1;
     }
 }

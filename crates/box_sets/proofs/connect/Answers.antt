@@ -50,20 +50,5 @@ list-requires c =
     let pre = c.requires in
     (c.join_all.ensures.0.parents, still pre.3 c.join_all.auto.order, pre.4, still pre.5 c.join_all.auto.work)
 
-pub shape_of-parents : goal.shape_of-parents
-shape_of-parents c = c.list.auto.parents ∙ c.join_all.auto.parents
-
-pub shape_of-members : goal.shape_of-members
-shape_of-members c = c.list.auto.members ∙ c.join_all.auto.order
-
-pub shape_of-ends : goal.shape_of-ends
-shape_of-ends c = c.list.auto.ends
-
-pub shape_of-work : goal.shape_of-work
-shape_of-work c = c.list.auto.work ∙ c.join_all.auto.work
-
-pub shape_of-keys : goal.shape_of-keys
-shape_of-keys c = c.join_all.auto.keys
-
 pub returns : goal.returns
 returns c = listed c.args.rects.now c.args.limit c.join_all.ensures.0 c.join_all.ensures.1 c.list.ensures

@@ -32,17 +32,5 @@ pub join_near-requires-2 : goal.join_near-requires-2
 join_near-requires-2 c =
     (c.requires.0, c.requires.1, still c.requires.3 c.join_near.auto.order c.join_near.auto.work c.join_near.auto.keys, sweep_again c.join_near.ensures.0)
 
-pub shape_of-parents : goal.shape_of-parents
-shape_of-parents c = c.join_near-2.auto.parents ∙ c.join_near.auto.parents ∙ c.begin.auto.parents
-
-pub shape_of-order : goal.shape_of-order
-shape_of-order c = c.join_near-2.auto.order ∙ c.join_near.auto.order
-
-pub shape_of-work : goal.shape_of-work
-shape_of-work c = c.join_near-2.auto.work ∙ c.join_near.auto.work
-
-pub shape_of-keys : goal.shape_of-keys
-shape_of-keys c = c.join_near-2.auto.keys ∙ c.join_near.auto.keys
-
 pub returns : goal.returns
 returns c = (both_sweeps c.join_near.ensures.0 c.join_near-2.ensures.0, c.join_near-2.ensures.1 ∙ c.join_near.ensures.1)

@@ -43,27 +43,6 @@ pub find-found-requires : goal.find-found-requires
 find-found-requires c =
     let K = known (goal.at.find-found-requires c).Else-number-ne0 in (limit_small c.args.p c.args.xheight K.settled c.limit-limit.ensures, K.boxes, K.roomy)
 
-pub shape_of-members : goal.shape_of-members
-shape_of-members c = c.find-found.auto.members
-
-pub shape_of-ends : goal.shape_of-ends
-shape_of-ends c = c.find-found.auto.ends
-
-pub shape_of-reading : goal.shape_of-reading
-shape_of-reading c = c.find-found.auto.reading
-
-pub shape_of-numbers : goal.shape_of-numbers
-shape_of-numbers c = c.find-found.auto.numbers
-
-pub shape_of-parents : goal.shape_of-parents
-shape_of-parents c = c.find-found.auto.parents
-
-pub shape_of-work : goal.shape_of-work
-shape_of-work c = c.find-found.auto.work
-
-pub shape_of-keys : goal.shape_of-keys
-shape_of-keys c = c.find-found.auto.keys
-
 pub returns : goal.returns
 returns c =
     accepted (given (goal.at.returns c).Start) (lent (goal.at.returns c).Start) (number_is (goal.at.returns c).After-missed-number) _ c.if-number-ne0.false (known (goal.at.returns c).Else-number-ne0).settled c.limit-limit.ensures c.find-found.ensures

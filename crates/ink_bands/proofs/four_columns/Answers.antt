@@ -24,9 +24,6 @@ whole : (ink : Ink) (r : Rect) (i : ℕ) {j n x : ℕ} → j ≡ height_of r →
 unfolding column_ink
 whole ink r i e f t = rw (f, e) at t
 
-pub loop-j-init : goal.loop-j-init
-loop-j-init c = (omega arith, refl, refl, refl, refl)
-
 -- column i + d at the head of a turn
 here : (c : In-loop-j) (d : ℕ) {n x : ℕ} → d < 4
     → let a = c.args in
@@ -38,27 +35,26 @@ here c d h e t =
     fits a.mask.now a.w a.r (a.i + d) p.0 (omega (arith, p.1)) (omega (arith, c.height-rows.ensures)) e t
 
 pub counted-a-requires : goal.counted-a-requires
-counted-a-requires c = here c 0 (omega arith) (omega arith) c.loop-j.invariant.1
+counted-a-requires c = here c 0 (omega arith) (omega arith) c.loop-j.invariant.0
 
 pub counted-b-requires : goal.counted-b-requires
-counted-b-requires c = here (goal.at.counted-b-requires c).In-loop-j 1 (omega arith) (omega arith) c.loop-j.invariant.2
+counted-b-requires c = here (goal.at.counted-b-requires c).In-loop-j 1 (omega arith) (omega arith) c.loop-j.invariant.1
 
 pub counted-c-requires : goal.counted-c-requires
-counted-c-requires c = here (goal.at.counted-c-requires c).In-loop-j 2 (omega arith) (omega arith) c.loop-j.invariant.3
+counted-c-requires c = here (goal.at.counted-c-requires c).In-loop-j 2 (omega arith) (omega arith) c.loop-j.invariant.2
 
 pub counted-d-requires : goal.counted-d-requires
-counted-d-requires c = here (goal.at.counted-d-requires c).In-loop-j 3 (omega arith) (omega arith) c.loop-j.invariant.4
+counted-d-requires c = here (goal.at.counted-d-requires c).In-loop-j 3 (omega arith) (omega arith) c.loop-j.invariant.3
 
 pub loop-j-preserved : goal.loop-j-preserved
 loop-j-preserved c =
     let a = c.args in
     let ink = ink_at a.w a.mask.now in
     let x = a.r.x0 + a.i in (
-      omega arith,
-      c.counted-a.ensures ∙ many_next (λ k. ink x (a.r.y0 + k)) c.loop-j.j c.loop-j.invariant.1 refl,
-      c.counted-b.ensures ∙ many_next (λ k. ink (x + 1) (a.r.y0 + k)) c.loop-j.j c.loop-j.invariant.2 refl,
-      c.counted-c.ensures ∙ many_next (λ k. ink (x + 2) (a.r.y0 + k)) c.loop-j.j c.loop-j.invariant.3 refl,
-      c.counted-d.ensures ∙ many_next (λ k. ink (x + 3) (a.r.y0 + k)) c.loop-j.j c.loop-j.invariant.4 refl,
+      c.counted-a.ensures ∙ many_next (λ k. ink x (a.r.y0 + k)) c.loop-j.j c.loop-j.invariant.0 refl,
+      c.counted-b.ensures ∙ many_next (λ k. ink (x + 1) (a.r.y0 + k)) c.loop-j.j c.loop-j.invariant.1 refl,
+      c.counted-c.ensures ∙ many_next (λ k. ink (x + 2) (a.r.y0 + k)) c.loop-j.j c.loop-j.invariant.2 refl,
+      c.counted-d.ensures ∙ many_next (λ k. ink (x + 3) (a.r.y0 + k)) c.loop-j.j c.loop-j.invariant.3 refl,
     )
 
 pub returns : goal.returns
@@ -67,9 +63,8 @@ returns c =
     let v = c.loop-j.invariant in
     let end : c.loop-j.j ≡ height_of a.r = omega (arith, c.height-rows.ensures) in
     let ink = ink_at a.w a.mask.now in
-    record {
-      first = whole ink a.r a.i end refl v.1;
-      second = whole ink a.r (a.i + 1) end (omega arith) v.2;
-      third = whole ink a.r (a.i + 2) end (omega arith) v.3;
-      fourth = whole ink a.r (a.i + 3) end (omega arith) v.4;
-    }
+    let first = whole ink a.r a.i end refl v.0 in
+    let second = whole ink a.r (a.i + 1) end (omega arith) v.1 in
+    let third = whole ink a.r (a.i + 2) end (omega arith) v.2 in
+    let fourth = whole ink a.r (a.i + 3) end (omega arith) v.3 in
+    cc

@@ -1,7 +1,8 @@
 -- `lines::longest` meets its contract: `run` is the run that ends at the line in hand, `best` the longest before it.
 use mathlib.Core.Path.{◌≡◌, sym, ap, ◌∙◌}
 use mathlib.Core.Bool.{Bool, cond}
-use Prim.Native.Nat.{suc}
+use Prim.Native.Nat.{suc, max}
+use Rattle.std.proofs.lemmas.Grind.{common_steps}
 use native.Mathlib.Omega.{arith}
 use Rattle.ink.specs.Places.{longest_run}
 use Rattle.ink.proofs.Counts.{lines_le}
@@ -12,28 +13,29 @@ use Rattle.ink_lines.proofs.longest.Goals as goal
 pub loop-k-init : goal.loop-k-init
 loop-k-init c =
     let a = c.args in
-    let q = test a.mask.now a.w a.r a.rows in
-    (omega arith, sym (run_none q), sym (longest_none q))
+    let q = test a.mask.now a.w a.r a.lines in
+    (sym (run_none q), sym (longest_none q))
 
 pub line_has_ink-requires : goal.line_has_ink-requires
-line_has_ink-requires c = (c.requires, omega (arith, c.lines_of-n.ensures))
+line_has_ink-requires c = (c.requires, omega (arith, c.lines_of-k-end.ensures))
 
 pub longer_run-run-requires : goal.longer_run-run-requires
 longer_run-run-requires c =
     let a = c.args in
-    omega (arith, c.loop-k.invariant.1, run_le (test a.mask.now a.w a.r a.rows) c.loop-k.k, c.loop-k-test.true, c.lines_of-n.ensures, lines_le a.mask.now a.w a.r c.requires a.rows)
+    omega (arith, c.loop-k.invariant.0, run_le (test a.mask.now a.w a.r a.lines) c.loop-k.k, c.loop-k-test.true, c.lines_of-k-end.ensures, lines_le a.mask.now a.w a.r c.requires a.lines)
 
 pub loop-k-preserved : goal.loop-k-preserved
 loop-k-preserved c =
     let a = c.args in
-    let q = test a.mask.now a.w a.r a.rows in
+    let q = test a.mask.now a.w a.r a.lines in
     let k = c.loop-k.k in
-    let r = run_next q k c.loop-k.invariant.1 (c.longer_run-run.ensures ∙ ap (λ (b : Bool). cond b (suc c.loop-k.run) 0) c.line_has_ink.ensures) in
-    (omega arith, r, longest_next q k c.loop-k.invariant.2 r c.greatest-best.ensures)
+    let r = run_next q k c.loop-k.invariant.0 (c.longer_run-run.ensures ∙ ap (λ (b : Bool). cond b (suc c.loop-k.run) 0) c.line_has_ink.ensures) in
+    let most : c.max-best.result ≡ max c.loop-k.best c.longer_run-run.result = grind (arith, common_steps) in
+    (r, longest_next q k c.loop-k.invariant.1 r most)
 
 pub returns : goal.returns
 returns c =
     let a = c.args in
-    let q = test a.mask.now a.w a.r a.rows in
-    let end : c.loop-k.k ≡ c.lines_of-n.result = omega arith in
-    c.loop-k.invariant.2 ∙ ap (longest_run q) (end ∙ c.lines_of-n.ensures)
+    let q = test a.mask.now a.w a.r a.lines in
+    let end : c.loop-k.k ≡ c.lines_of-k-end.result = omega arith in
+    c.loop-k.invariant.1 ∙ ap (longest_run q) (end ∙ c.lines_of-k-end.ensures)

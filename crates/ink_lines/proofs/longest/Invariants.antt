@@ -2,19 +2,17 @@
 use mathlib.Core.Path.{◌≡◌}
 use mathlib.Core.Bool.{Bool}
 use mathlib.Core.List.{List}
-use Prim.Native.Nat.{ℕ, ◌-◌, ◌≤◌}
+use Prim.Native.Nat.{ℕ}
 use lib.Dec.{ltb}
 use Rattle.rects.specs.declared.Rect.{Rect}
+use Rattle.ink.specs.declared.Lines.{Lines}
 use Rattle.ink.specs.Ink.{ink_at}
 use Rattle.ink.specs.Steps.{line_ink}
 use Rattle.ink.specs.Places.{run_before, longest_run}
 use Rattle.ink_lines.proofs.longest.Given as goal
 
-abbrev pub test : List ℕ → ℕ → Rect → Bool → ℕ → Bool
-test mask w r rows k = ltb 0 (line_ink (ink_at w mask) r rows k)
+abbrev pub test : List ℕ → ℕ → Rect → Lines → ℕ → Bool
+test mask w r lines k = ltb 0 (line_ink (ink_at w mask) r lines k)
 
 abbrev pub invariant-loop-k : goal.invariant-loop-k
-invariant-loop-k l = (l.k ≤ l.n) × (l.run ≡ run_before (test l.mask l.w l.r l.rows) l.k) × (l.best ≡ longest_run (test l.mask l.w l.r l.rows) l.k)
-
-abbrev pub decreases-loop-k : goal.decreases-loop-k
-decreases-loop-k l = l.n - l.k
+invariant-loop-k l = (l.run ≡ run_before (test l.mask l.w l.r l.lines) l.k) × (l.best ≡ longest_run (test l.mask l.w l.r l.lines) l.k)

@@ -1,12 +1,12 @@
 -- `sweep::join_row` meets its contract: each turn tries one pair more, and where it stops early nothing behind is near, or one of the same
 -- width was tried, past which no pair is asked for. As long as every pair was found in one set, all places that were tried are one set.
-use mathlib.Core.Path.{◌≡◌, refl, sym, ◌∙◌}
+use Rattle.std.proofs.lemmas.Grind.{common_steps}
+use mathlib.Core.Path.{◌≡◌, refl, sym, ap, ◌∙◌}
 use mathlib.Core.Bool.{Bool, true, false, cond, ◌&&◌}
 use mathlib.Core.List.{List}
 use Prim.Native.Nat.{ℕ, ◌+◌, ◌≤◌, ◌<◌, max}
 use native.Mathlib.Omega.{arith}
-use borrow.Author.Rules.{scaled_Fits}
-use lib.ListN.{length, get_or}
+use lib.ListN.{get_or}
 use Rattle.lists.proofs.Every.{and_first, and_second}
 use Rattle.rects.specs.Rects.{count}
 use Rattle.sets.specs.Steps.{root, Joined}
@@ -18,31 +18,26 @@ use Rattle.box_sets.proofs.sweep.join_row.Goals as goal
 
 begun : {rects : List ℕ} {limit : ℕ} {order keys p : List ℕ} {k n from l : ℕ} → SweptTo rects limit order keys p k (k + 1) p → OneSet order k from p → from ≤ n
     → k < n → l ≡ max from (k + 1) → Row rects limit order keys p k n p true l
-begun B O f h e = record { later = omega arith; up_to = omega arith; long = refl; swept = rw e (run_known O B); one = λ _. rw e (one_set_begins O) }
+begun B O f h e = record { later = omega arith; swept = rw e (run_known O B); one = λ _. rw e (one_set_begins O) }
 
 module _ {rects : List ℕ} {limit : ℕ} {order keys : List ℕ} {k width last : ℕ} (S : Sweep rects limit order keys) (first : k < count rects)
     (H : Head rects limit keys (get_or order k 0) width last) where
   turn : {p q q' : List ℕ} {whole r : Bool} {l other : ℕ} → Row rects limit order keys p k (count rects) q whole l → l < count rects
-      → get_or keys (get_or order l 0) 0 ≤ last → other ≡ width_at rects order l → length q' ≡ length q
+      → get_or keys (get_or order l 0) 0 ≤ last → other ≡ width_at rects order l
       → Joined (count rects) q (get_or order k 0) (get_or order l 0) (similar width other) q'
       × (r ≡ true → root q' (get_or order k 0) ≡ root q' (get_or order l 0))
       → Row rects limit order keys p k (count rects) q' (r && whole) (l + 1)
-  turn {whole = whole} {r} W h near e long J =
+  turn {whole = whole} {r} W h near e J =
       record {
         later = omega (arith, W.later);
-        up_to = omega arith;
-        long = long ∙ W.long;
         swept = pair_tried S first H W.swept W.later h near (rw e at J.0);
         one = λ f. one_set_more S.sorted.known W.later h (W.one (and_second r whole f)) J.0 (J.1 (and_first r whole f));
       }
 
 finished : {rects : List ℕ} {limit : ℕ} {order keys p : List ℕ} {k : ℕ} {q : List ℕ} {whole : Bool} {l r : ℕ} → Row rects limit order keys p k (count rects) q whole l
-    → SweptTo rects limit order keys p (k + 1) (k + 2) q → r ≡ cond whole l 0 → RowDone rects limit order keys p k q r
-finished {whole = true} W B e = record { swept = B; up_to = omega (arith, W.up_to); one = rw e (one_set_next (W.one refl)) }
-finished {whole = false} W B e = record { swept = B; up_to = omega arith; one = record { same = λ b h m. absurd (omega arith) } }
-
-pub offset_bounds-order-k : goal.offset_bounds-order-k
-offset_bounds-order-k c = scaled_Fits c.args.k (length c.args.order.now) 4 (omega (arith, c.requires.3, c.requires.2.sorted.order_room)) c.well_formed.1.1.0.1
+    → l ≤ count rects → SweptTo rects limit order keys p (k + 1) (k + 2) q → r ≡ cond whole l 0 → RowDone rects limit order keys p k q r
+finished {whole = true} W u B e = record { swept = B; up_to = omega arith; one = rw e (one_set_next (W.one refl)) }
+finished {whole = false} W u B e = record { swept = B; up_to = omega arith; one = record { same = λ b h m. absurd (omega arith) } }
 
 pub bounds-order-k : goal.bounds-order-k
 bounds-order-k c = omega (arith, c.requires.3, c.requires.2.sorted.order_room)
@@ -53,10 +48,6 @@ overflow_cast-i c = omega (arith, c.requires.2.sorted.known c.args.k c.requires.
 pub size_at-width-requires : goal.size_at-width-requires
 size_at-width-requires c = (c.requires.1, c.requires.2.sorted.known c.args.k c.requires.3)
 
-pub offset_bounds-keys-i : goal.offset_bounds-keys-i
-offset_bounds-keys-i c = scaled_Fits (get_or c.args.order.now c.args.k 0) (length c.args.keys.now) 8
-    (omega (arith, c.requires.2.sorted.known c.args.k c.requires.3, c.requires.2.sorted.keys_room)) c.well_formed.1.1.1.0.1
-
 pub bounds-keys-i : goal.bounds-keys-i
 bounds-keys-i c = omega (arith, c.requires.2.sorted.known c.args.k c.requires.3, c.requires.2.sorted.keys_room)
 
@@ -64,14 +55,8 @@ pub overflow_add-last : goal.overflow_add-last
 overflow_add-last c =
     omega (arith, c.requires.2.small (get_or c.args.order.now c.args.k 0) (c.requires.2.sorted.known c.args.k c.requires.3), c.requires.0)
 
-pub first_untried-l-requires : goal.first_untried-l-requires
-first_untried-l-requires c = omega (arith, c.requires.3, c.requires.1.few)
-
 pub loop-l-init : goal.loop-l-init
-loop-l-init c = begun c.requires.4 c.requires.6 c.requires.5 c.requires.3 c.first_untried-l.ensures
-
-pub offset_bounds-order-l : goal.offset_bounds-order-l
-offset_bounds-order-l c = scaled_Fits c.loop-l.l (length c.args.order.now) 4 (omega (arith, c.loop-l-test.true, c.requires.2.sorted.order_room)) c.well_formed.1.1.0.1
+loop-l-init c = begun c.requires.4 c.requires.6 c.requires.5 c.requires.3 (grind (arith, common_steps))
 
 pub bounds-order-l : goal.bounds-order-l
 bounds-order-l c = omega (arith, c.loop-l-test.true, c.requires.2.sorted.order_room)
@@ -79,20 +64,13 @@ bounds-order-l c = omega (arith, c.loop-l-test.true, c.requires.2.sorted.order_r
 pub overflow_cast-j : goal.overflow_cast-j
 overflow_cast-j c = omega (arith, c.requires.2.sorted.known c.loop-l.l c.loop-l-test.true, c.requires.1.few)
 
-pub offset_bounds-keys-j : goal.offset_bounds-keys-j
-offset_bounds-keys-j c = scaled_Fits (get_or c.args.order.now c.loop-l.l 0) (length c.args.keys.now) 8
-    (omega (arith, c.requires.2.sorted.known c.loop-l.l c.loop-l-test.true, c.requires.2.sorted.keys_room)) c.well_formed.1.1.1.0.1
-
 pub bounds-keys-j : goal.bounds-keys-j
 bounds-keys-j c = omega (arith, c.requires.2.sorted.known c.loop-l.l c.loop-l-test.true, c.requires.2.sorted.keys_room)
-
-pub shape_of-parents-then-last-keys : goal.shape_of-parents-then-last-keys
-shape_of-parents-then-last-keys c = c.loop-l.invariant.long
 
 pub returns-then-last-keys : goal.returns-then-last-keys
 returns-then-last-keys c =
     let pre = c.requires in
-    finished c.loop-l.invariant (row_stops pre.2 pre.3 (record { wide = c.size_at-width.ensures; reaches = refl }) c.loop-l.invariant.swept c.loop-l-test.true c.if-last-keys.true) c.known_to.ensures
+    finished c.loop-l.invariant (omega arith) (row_stops pre.2 pre.3 (record { wide = c.size_at-width.ensures; reaches = refl }) c.loop-l.invariant.swept c.loop-l-test.true c.if-last-keys.true) c.known_to.ensures
 
 pub size_at-other-requires : goal.size_at-other-requires
 size_at-other-requires c = (c.requires.1, c.requires.2.sorted.known c.loop-l.l c.loop-l-test.true)
@@ -102,30 +80,22 @@ join_similar-whole-requires c =
     let pre = c.requires in
     (c.loop-l.invariant.swept.before.parents, pre.2.sorted.known c.args.k pre.3, pre.2.sorted.known c.loop-l.l c.loop-l-test.true)
 
-pub overflow_add-l : goal.overflow_add-l
-overflow_add-l c = omega (arith, c.loop-l-test.true, c.requires.1.few)
-
-pub shape_of-parents-then-other-width : goal.shape_of-parents-then-other-width
-shape_of-parents-then-other-width c = c.join_similar-whole.auto.parents ∙ c.loop-l.invariant.long
-
 pub returns-then-other-width : goal.returns-then-other-width
 returns-then-other-width c =
     let pre = c.requires in
-    let T = turn pre.2 pre.3 (record { wide = c.size_at-width.ensures; reaches = refl }) c.loop-l.invariant c.loop-l-test.true c.if-last-keys.false c.size_at-other.ensures c.join_similar-whole.auto.parents c.join_similar-whole.ensures in
-    finished T (row_meets_width pre.2 pre.3 (record { wide = c.size_at-width.ensures; reaches = refl }) T.swept c.loop-l.invariant.later (sym c.size_at-other.ensures ∙ c.if-other-width.true)) c.known_to-then-other-width.ensures
-
-pub loop-l-smaller : goal.loop-l-smaller
-loop-l-smaller c = omega (arith, c.loop-l-test.true)
+    let T = turn pre.2 pre.3 (record { wide = c.size_at-width.ensures; reaches = refl }) c.loop-l.invariant c.loop-l-test.true c.if-last-keys.false c.size_at-other.ensures c.join_similar-whole.ensures in
+    finished T (omega arith) (row_meets_width pre.2 pre.3 (record { wide = c.size_at-width.ensures; reaches = refl }) T.swept c.loop-l.invariant.later (sym c.size_at-other.ensures ∙ c.if-other-width.true)) c.known_to-then-other-width.ensures
 
 pub loop-l-preserved : goal.loop-l-preserved
 loop-l-preserved c =
     let pre = c.requires in
-    turn pre.2 pre.3 (record { wide = c.size_at-width.ensures; reaches = refl }) c.loop-l.invariant c.loop-l-test.true c.if-last-keys.false c.size_at-other.ensures c.join_similar-whole.auto.parents c.join_similar-whole.ensures
-
-pub shape_of-parents : goal.shape_of-parents
-shape_of-parents c = c.loop-l.invariant.long
+    turn pre.2 pre.3 (record { wide = c.size_at-width.ensures; reaches = refl }) c.loop-l.invariant c.loop-l-test.true c.if-last-keys.false c.size_at-other.ensures c.join_similar-whole.ensures
 
 pub returns : goal.returns
 returns c =
     let pre = c.requires in
-    finished c.loop-l.invariant (row_ends pre.2 pre.3 (record { wide = c.size_at-width.ensures; reaches = refl }) c.loop-l.invariant.swept c.loop-l-test.false) c.known_to-2.ensures
+    let n = count c.args.rects.now in
+    let start : c.max-l.result ≡ max c.args.from (c.args.k + 1) = grind (arith, common_steps) in
+    let end : c.loop-l.l ≡ n = omega (arith, start, pre.3, pre.5) in
+    finished c.loop-l.invariant (omega (arith, end)) (row_ends pre.2 pre.3 (record { wide = c.size_at-width.ensures; reaches = refl }) c.loop-l.invariant.swept c.loop-l-test.false)
+    (c.known_to-2.ensures ∙ ap (λ (m : ℕ). cond c.loop-l.whole m 0) (sym end))

@@ -7,4 +7,4 @@ use Rattle.glyph_tests.proofs.edges.share.Goals as goal
 
 pub returns : goal.returns
 unfolding line_share
-returns c = ap₂ (λ (a b : ℕ). div binary64 (whole a) (whole b)) c.longest-best.ensures c.lines_of.ensures
+returns c = rw (c.from.ensures, c.from-2.ensures) (ap₂ (λ (a b : ℕ). div binary64 (whole a) (whole b)) c.longest-best.ensures c.lines_of.ensures)

@@ -16,18 +16,18 @@ pub test_frame-requires : goal.test_frame-requires
 test_frame-requires c =
     let a = c.args in
     let ink = ink_at a.w a.mask.now in
-    let h = has_one ink a.l.box_overshoot_fraction a.r c.frame_of-framed.ensures c.in-Frame.is in
+    let h = has_one ink a.l.box_overshoot_fraction a.r c.frame_of.ensures c.in_ok-f.was in
     (rw h.1 (frame_readable ink a.l.box_overshoot_fraction a.r a.mask.now a.w c.requires.0 h.0), c.requires.1)
 
-pub returns-in-Nothing : goal.returns-in-Nothing
-returns-in-Nothing c =
+pub returns-in_err-f : goal.returns-in_err-f
+returns-in_err-f c =
     let a = c.args in
     let ink = ink_at a.w a.mask.now in
-    by_frame ink a.l a.r (size_says a.r a.l.min_size a.l.slack c.width.ensures c.height.ensures c.size_missed.ensures c.if-size_missed.false) (frameless ink a.l.box_overshoot_fraction a.r c.frame_of-framed.ensures c.in-Nothing.is)
+    c.from_residual.ensures ∙ by_frame ink a.l a.r (size_says a.r a.l.min_size a.l.slack c.width.ensures c.height.ensures c.size_missed.ensures c.if-size_missed.false) (frameless ink a.l.box_overshoot_fraction a.r c.frame_of.ensures c.in_err-f.was)
 
-pub returns-in-Frame : goal.returns-in-Frame
-returns-in-Frame c =
+pub returns : goal.returns
+returns c =
     let a = c.args in
     let ink = ink_at a.w a.mask.now in
-    let h = has_one ink a.l.box_overshoot_fraction a.r c.frame_of-framed.ensures c.in-Frame.is in
+    let h = has_one ink a.l.box_overshoot_fraction a.r c.frame_of.ensures c.in_ok-f.was in
     c.test_frame.ensures ∙ ap (found_in ink a.l) h.1 ∙ by_its_frame ink a.l a.r (size_says a.r a.l.min_size a.l.slack c.width.ensures c.height.ensures c.size_missed.ensures c.if-size_missed.false) h.0

@@ -25,4 +25,4 @@ overflow_mul-total c = record { fits = small_product (omega (arith, c.width.ensu
 pub returns : goal.returns
 returns c =
     let a = c.args in
-    share_is (ink_at a.w a.mask.now) a.f c.inner_half-half.ensures c.ink_in-inked.ensures c.width.ensures c.height.ensures
+    rw (c.from.ensures, c.from-2.ensures) (share_is (ink_at a.w a.mask.now) a.f c.inner_half-half.ensures c.ink_in-inked.ensures c.width.ensures c.height.ensures)

@@ -1,6 +1,5 @@
 -- `inner::find` meets its contract: the member list gives each closed set back, and the passes go through them.
 use Rattle.std.specs.Prelude.{◌≡◌, ℕ, ◌≤◌}
-use mathlib.Core.Path.{◌∙◌}
 use native.Mathlib.Omega.{arith}
 use Rattle.grids.proofs.Filling.{set_is, sets_in, filled}
 use Rattle.grids.proofs.inner.find.Goals as goal
@@ -24,27 +23,6 @@ pub choose-grids-requires : goal.choose-grids-requires
 choose-grids-requires c =
     let S = sets_in c.args.rects.now c.args.limit c.connect-sets.ensures c.requires.2.members c.requires.2.ends in
     (omega (arith, S.few, c.requires.1.few), omega (arith, S.few, c.requires.2.numbers))
-
-pub shape_of-members : goal.shape_of-members
-shape_of-members c = c.connect-sets.auto.members
-
-pub shape_of-ends : goal.shape_of-ends
-shape_of-ends c = c.connect-sets.auto.ends
-
-pub shape_of-reading : goal.shape_of-reading
-shape_of-reading c = c.read_sets.auto.reading
-
-pub shape_of-numbers : goal.shape_of-numbers
-shape_of-numbers c = c.choose-grids.auto.numbers
-
-pub shape_of-parents : goal.shape_of-parents
-shape_of-parents c = c.read_sets.auto.order ∙ c.connect-sets.auto.parents
-
-pub shape_of-work : goal.shape_of-work
-shape_of-work c = c.read_sets.auto.work ∙ c.connect-sets.auto.work
-
-pub shape_of-keys : goal.shape_of-keys
-shape_of-keys c = c.read_sets.auto.keys ∙ c.connect-sets.auto.keys
 
 pub returns : goal.returns
 returns c =

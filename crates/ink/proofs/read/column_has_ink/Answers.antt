@@ -2,14 +2,10 @@
 use mathlib.Core.Path.{sym, ◌∙◌}
 use Prim.Native.Nat.{◌+◌}
 use native.Mathlib.Omega.{arith}
-use borrow.Author.Count.{below_none, below_more}
 use Rattle.rects.specs.Rects.{height_of}
 use Rattle.ink.specs.Ink.{ink_at, column_ink}
 use Rattle.ink.proofs.Counts.{row_in_mask, one_passes, none_passes}
 use Rattle.ink.proofs.read.column_has_ink.Goals as goal
-
-pub loop-j-init : goal.loop-j-init
-loop-j-init c = (omega arith, below_none _)
 
 pub is_ink-requires : goal.is_ink-requires
 is_ink-requires c =
@@ -22,13 +18,8 @@ returns-then-is_ink c =
     let a = c.args in
     one_passes (λ k. ink_at a.w a.mask.now (a.r.x0 + a.i) (a.r.y0 + k)) (height_of a.r) c.loop-j.j (omega (arith, c.loop-j-test.true, c.height-rows.ensures)) (sym c.is_ink.ensures ∙ c.if-is_ink.true)
 
-pub loop-j-preserved : goal.loop-j-preserved
-loop-j-preserved c =
-    let a = c.args in
-    (omega arith, below_more _ _ c.loop-j.invariant.1 (sym c.is_ink.ensures ∙ c.if-is_ink.false))
-
 pub returns : goal.returns
 unfolding column_ink
 returns c =
     let a = c.args in
-    none_passes (λ k. ink_at a.w a.mask.now (a.r.x0 + a.i) (a.r.y0 + k)) (height_of a.r) (λ k l. c.loop-j.invariant.1 k (omega (arith, l, c.loop-j-test.false, c.height-rows.ensures)))
+    none_passes (λ k. ink_at a.w a.mask.now (a.r.x0 + a.i) (a.r.y0 + k)) (height_of a.r) (λ k l. c.loop-j.invariant k (omega (arith, l, c.loop-j-test.false, c.height-rows.ensures)))

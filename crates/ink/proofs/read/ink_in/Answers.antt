@@ -9,10 +9,10 @@ use Rattle.ink.proofs.read.ink_in.Goals.{After-row_count-n}
 use Rattle.ink.proofs.read.ink_in.Goals as goal
 
 pub loop-j-init : goal.loop-j-init
-loop-j-init c = let a = c.args in (omega arith, omega arith, sym (rows_none (ink_at a.w a.mask.now) a.r))
+loop-j-init c = let a = c.args in (omega arith, sym (rows_none (ink_at a.w a.mask.now) a.r))
 
 pub row_count-n-requires : goal.row_count-n-requires
-row_count-n-requires c = (c.requires, omega (arith, c.height-rows.ensures))
+row_count-n-requires c = (c.requires, omega (arith, c.height-j-end.ensures))
 
 -- a row has no more ink than places
 row_small : (c : After-row_count-n) → c.row_count-n.result ≤ 8192
@@ -21,15 +21,15 @@ row_small c =
     omega (arith, c.row_count-n.ensures, row_le a.mask.now a.w a.r c.loop-j.j, c.requires.narrow, c.requires.right, c.requires.wide)
 
 pub overflow_add-n : goal.overflow_add-n
-overflow_add-n c = omega (arith, row_small c, c.height-rows.ensures, c.requires.low)
+overflow_add-n c = omega (arith, row_small c, c.height-j-end.ensures, c.requires.low)
 
 pub loop-j-preserved : goal.loop-j-preserved
 loop-j-preserved c =
     let a = c.args in
-    (omega arith, omega (arith, row_small c), rows_next (ink_at a.w a.mask.now) a.r c.loop-j.j c.loop-j.invariant.2 c.row_count-n.ensures)
+    (omega (arith, row_small c), rows_next (ink_at a.w a.mask.now) a.r c.loop-j.j c.loop-j.invariant.1 c.row_count-n.ensures)
 
 pub returns : goal.returns
 returns c =
     let a = c.args in
-    let end : c.loop-j.j ≡ height_of a.r = omega (arith, c.height-rows.ensures) in
-    c.loop-j.invariant.2 ∙ ap (ink_in_rows (ink_at a.w a.mask.now) a.r) end
+    let end : c.loop-j.j ≡ height_of a.r = omega (arith, c.height-j-end.ensures) in
+    c.loop-j.invariant.1 ∙ ap (ink_in_rows (ink_at a.w a.mask.now) a.r) end

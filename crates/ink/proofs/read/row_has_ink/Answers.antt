@@ -2,14 +2,10 @@
 use mathlib.Core.Path.{sym, ◌∙◌}
 use Prim.Native.Nat.{◌+◌}
 use native.Mathlib.Omega.{arith}
-use borrow.Author.Count.{below_none, below_more}
 use Rattle.rects.specs.Rects.{width_of}
 use Rattle.ink.specs.Ink.{ink_at, row_ink}
 use Rattle.ink.proofs.Counts.{row_in_mask, one_passes, none_passes}
 use Rattle.ink.proofs.read.row_has_ink.Goals as goal
-
-pub loop-i-init : goal.loop-i-init
-loop-i-init c = (omega arith, below_none _)
 
 pub is_ink-requires : goal.is_ink-requires
 is_ink-requires c =
@@ -22,13 +18,8 @@ returns-then-is_ink c =
     let a = c.args in
     one_passes (λ k. ink_at a.w a.mask.now (a.r.x0 + k) (a.r.y0 + a.j)) (width_of a.r) c.loop-i.i (omega (arith, c.loop-i-test.true, c.width-columns.ensures)) (sym c.is_ink.ensures ∙ c.if-is_ink.true)
 
-pub loop-i-preserved : goal.loop-i-preserved
-loop-i-preserved c =
-    let a = c.args in
-    (omega arith, below_more _ _ c.loop-i.invariant.1 (sym c.is_ink.ensures ∙ c.if-is_ink.false))
-
 pub returns : goal.returns
 unfolding row_ink
 returns c =
     let a = c.args in
-    none_passes (λ k. ink_at a.w a.mask.now (a.r.x0 + k) (a.r.y0 + a.j)) (width_of a.r) (λ k l. c.loop-i.invariant.1 k (omega (arith, l, c.loop-i-test.false, c.width-columns.ensures)))
+    none_passes (λ k. ink_at a.w a.mask.now (a.r.x0 + k) (a.r.y0 + a.j)) (width_of a.r) (λ k l. c.loop-i.invariant k (omega (arith, l, c.loop-i-test.false, c.width-columns.ensures)))

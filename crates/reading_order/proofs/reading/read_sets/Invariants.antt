@@ -1,8 +1,7 @@
 -- `reading::read_sets` meets its contract: one set more a turn, in the places of its members.
 use mathlib.Core.Path.{◌≡◌}
 use mathlib.Core.List.{List, map}
-use Prim.Native.Nat.{ℕ, ◌-◌, ◌≤◌}
-use lib.ListN.{length}
+use Prim.Native.Nat.{ℕ}
 use Rattle.lists.specs.Lists.{below, concat, written}
 use Rattle.sets.specs.Listing.{members_of}
 use Rattle.reading_order.specs.Reading.{reading_order}
@@ -13,18 +12,9 @@ use Rattle.reading_order.proofs.reading.read_sets.Given as goal
 abbrev pub read : List ℕ → (ℕ → List ℕ) → ℕ → List ℕ
 read rects f k = reading_order rects (f k)
 
-pub record Progress (rects : List ℕ) (f : ℕ → List ℕ) (n : ℕ) (re od wo ke re' od' wo' ke' : List ℕ) (at k : ℕ) : Type 0 where
-  pub up_to : k ≤ n
-  pub reading : length re' ≡ length re
-  pub order : length od' ≡ length od
-  pub work : length wo' ≡ length wo
-  pub keys : length ke' ≡ length ke
+pub record Progress (rects : List ℕ) (f : ℕ → List ℕ) (re re' : List ℕ) (at k : ℕ) : Type 0 where
   pub place : at ≡ total f k
   pub content : re' ≡ written (concat (map (read rects f) (below k))) re
 
 abbrev pub invariant-loop-k : goal.invariant-loop-k
-invariant-loop-k l =
-    Progress l.rects (members_of l.members l.ends l.count) l.count l.initial.reading l.initial.order l.initial.work l.initial.keys l.reading l.order l.work l.keys l.at l.k
-
-abbrev pub decreases-loop-k : goal.decreases-loop-k
-decreases-loop-k l = l.count - l.k
+invariant-loop-k l = Progress l.rects (members_of l.members l.ends l.count) l.initial.reading l.reading l.at l.k
