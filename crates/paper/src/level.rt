@@ -14,7 +14,7 @@ pub fn level(counts: &[u32], n: usize) -> u8
     let mut at_least = counts[255] as usize;
     while at_least < half {
         v -= 1;
-        at_least += counts[v as usize] as usize;
+        at_least += counts[usize::from(v)] as usize;
     }
     v
 }
