@@ -46,7 +46,7 @@ fn sum_of_part(raster: &[u8], start: usize, n: usize, rows: usize, w: usize) -> 
     sum_of(&least, n)
 }
 
-// The sum over n columns.
+// The sum over n columns. A `while`: a turn goes on where its part ended, and `step_by` would say the part's size a second time.
 pub fn sum_of_columns(raster: &[u8], start: usize, n: usize, rows: usize, w: usize) -> u32
     requires { (n ≤ 8192) × (0 < rows) × RowsInside raster.now start n rows w }
     ensures { result ≡ total (columns_darkest raster.now start n rows w) }
