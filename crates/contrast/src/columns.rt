@@ -4,21 +4,13 @@ ghost use Rattle.lists.specs.Lists.{below};
 ghost use Rattle.math.specs.Sum.{total};
 ghost use Rattle.contrast.specs.Steps.{columns_darkest, Darkened, RowsInside};
 
-fn darker(a: u8, b: u8) -> u8
-    ensures { result ≡ min a b }
-{
-    if a < b { a } else { b }
-}
-
 // Each of n entries becomes the pixel of a row, if that is darker.
 fn darken(raster: &[u8], start: usize, n: usize, least: &mut [u8])
     requires { (start + n ≤ length raster.now) × (n ≤ length least.old) }
     ensures { (i : ℕ) → i < n → get_or least.new i 0 ≡ min (get_or least.old i 0) (get_or raster.now (start + i) 0) }
 {
-    let mut i = 0;
-    while i < n {
-        least[i] = darker(least[i], raster[start + i]);
-        i += 1;
+    for i in 0..n {
+        least[i] = least[i].min(raster[start + i]);
     }
 }
 
@@ -27,10 +19,8 @@ fn darken_rows(raster: &[u8], start: usize, n: usize, rows: usize, w: usize, lea
     requires { (n ≤ length least.old) × RowsInside raster.now start n rows w × Darkened raster.now start n 0 w least.old }
     ensures { Darkened raster.now start n rows w least.new }
 {
-    let mut k = 0;
-    while k < rows {
+    for k in 0..rows {
         darken(raster, start + k * w, n, least);
-        k += 1;
     }
 }
 
@@ -40,10 +30,8 @@ fn sum_of(values: &[u8], n: usize) -> u32
     ensures { result ≡ total (map (λ i. get_or values.now i 0) (below n)) }
 {
     let mut sum = 0;
-    let mut i = 0;
-    while i < n {
-        sum += values[i] as u32;
-        i += 1;
+    for v in &values[..n] {
+        sum += u32::from(*v);
     }
     sum
 }
@@ -58,7 +46,7 @@ fn sum_of_part(raster: &[u8], start: usize, n: usize, rows: usize, w: usize) -> 
     sum_of(&least, n)
 }
 
-// The sum over n columns.
+// The sum over n columns. A `while`: a turn goes on where its part ended, and `step_by` would say the part's size a second time.
 pub fn sum_of_columns(raster: &[u8], start: usize, n: usize, rows: usize, w: usize) -> u32
     requires { (n ≤ 8192) × (0 < rows) × RowsInside raster.now start n rows w }
     ensures { result ≡ total (columns_darkest raster.now start n rows w) }
@@ -66,7 +54,7 @@ pub fn sum_of_columns(raster: &[u8], start: usize, n: usize, rows: usize, w: usi
     let mut sum = 0;
     let mut i = 0;
     while i < n {
-        let part = paper::areas::least(n - i, 256);
+        let part = (n - i).min(256);
         sum += sum_of_part(raster, start + i, part, rows, w);
         i += part;
     }

@@ -13,14 +13,9 @@ fn darkest_of(raster: &[u8], start: usize, n: usize) -> u8
     requires { start + n ≤ length raster.now }
     ensures { result ≡ darkest_of (line raster.now start n 1) }
 {
-    let mut least = 255;
-    let mut k = 0;
-    while k < n {
-        let p = raster[start + k];
-        if p < least {
-            least = p;
-        }
-        k += 1;
+    let mut least = 255u8;
+    for p in &raster[start..start + n] {
+        least = least.min(*p);
     }
     least
 }
@@ -31,10 +26,8 @@ fn sum_of_rows(raster: &[u8], start: usize, n: usize, columns: usize, w: usize) 
     ensures { result ≡ total (rows_darkest raster.now start n columns w) }
 {
     let mut sum = 0;
-    let mut i = 0;
-    while i < n {
-        sum += darkest_of(raster, start + i * w, columns) as u32;
-        i += 1;
+    for i in 0..n {
+        sum += u32::from(darkest_of(raster, start + i * w, columns));
     }
     sum
 }

@@ -15,8 +15,8 @@ pub fn contrast(raster: &[u8], w: usize, h: usize, r: Rect, horizontal: bool) ->
 {
     let mut counts = [0u32; 256];
     let n = paper::samples::sample(raster, w, h, r, horizontal, &mut counts);
-    let level = paper::level::level(&counts, n) as f64;
-    let sum = darkest::darkest_sum(raster, w, h, r, horizontal) as f64;
-    let along = darkest::along(w, h, r, horizontal) as f64;
+    let level = f64::from(paper::level::level(&counts, n));
+    let sum = f64::from(darkest::darkest_sum(raster, w, h, r, horizontal));
+    let along = f64::from(darkest::along(w, h, r, horizontal));
     level - sum / along
 }

@@ -16,7 +16,7 @@ fn key_of(a: Segment) -> u64
     ensures { result ≡ cross_key a }
 {
     if a.horizontal {
-        a.centre2 as u64
+        u64::from(a.centre2)
     } else {
         16384
     }
@@ -27,15 +27,14 @@ fn first_key(b: Segment, join: u64) -> u64
     requires { join < 2 ^ 32 }
     ensures { result ≡ first_centre join b }
 {
-    segment::saturating_sub(2 * (b.start as u64), 2 * join)
+    (2 * u64::from(b.start)).saturating_sub(2 * join)
 }
 
 fn last_key(b: Segment, join: u64) -> u64
     requires { join < 2 ^ 32 }
     ensures { result ≡ last_centre join b }
 {
-    let last = 2 * (b.end as u64 + join);
-    if last < 16383 { last } else { 16383 }
+    (2 * (u64::from(b.end) + join)).min(16383)
 }
 
 // Writes the key of each ruling.
@@ -44,10 +43,8 @@ fn write_keys(rects: &[u32], directions: &[u32], chosen: &[u32], keys: &mut [u64
     ensures { RulingsKeyed (ruling_at rects.now directions.now chosen.now) (length chosen.now)
         keys.new }
 {
-    let mut k = 0;
-    while k < chosen.len() {
+    for k in 0..chosen.len() {
         keys[k] = key_of(segment::ruling_at(rects, directions, chosen, k));
-        k += 1;
     }
 }
 
@@ -105,8 +102,8 @@ fn join_row(
         return;
     }
     let past = sorted::first_at_least(keys, order, n, last_key(b, join) + 1);
-    let mut k = sorted::first_at_least(keys, order, n, first_key(b, join));
-    while k < past {
+    let first = sorted::first_at_least(keys, order, n, first_key(b, join));
+    for k in first..past {
         join_held(
             rects,
             directions,
@@ -117,7 +114,6 @@ fn join_row(
             i,
             order[k] as usize,
         );
-        k += 1;
     }
 }
 
@@ -139,10 +135,8 @@ fn join_all(
 {
     let n = chosen.len();
     sets::begin(parents, n);
-    let mut i = 0;
-    while i < n {
+    for i in 0..n {
         join_row(rects, directions, chosen, keys, order, join, parents, i);
-        i += 1;
     }
 }
 

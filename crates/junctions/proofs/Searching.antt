@@ -47,7 +47,6 @@ module _ (join : ℕ) (s : ℕ → Segment) (set : List ℕ) (a : Segment) (e : 
 
   -- the members at the first k places do not join the end
   pub record Searched (order : List ℕ) (k : ℕ) : Type 0 where
-    pub up_to : k ≤ length set
     pub none : (l : ℕ) → l < k → by (get_or set (get_or order l 0) 0) ≡ false
 
   module _ {keys order : List ℕ} (O : MembersOrdered s set keys order) where
@@ -57,7 +56,6 @@ module _ (join : ℕ) (s : ℕ → Segment) (set : List ℕ) (a : Segment) (e : 
     pub search_begin : {k : ℕ} → FirstAtLeast (length set) keys order (first_key join e a) k → Searched order k
     search_begin {k} F =
         record {
-          up_to = F.up_to;
           none =
               λ l h. fails _ (λ t. let w = (joins_between join e a (s (get_or set (get_or order l 0) 0)) t).0 in
               let far = F.before l h in absurd (omega (arith, key l (omega (arith, F.up_to)))));
@@ -65,7 +63,7 @@ module _ (join : ℕ) (s : ℕ → Segment) (set : List ℕ) (a : Segment) (e : 
 
     pub search_turn : {k : ℕ} → Searched order k → k < length set → by (get_or set (get_or order k 0) 0) ≡ false → Searched order (k + 1)
     search_turn {k} S h f =
-        record { up_to = omega arith; none = λ l m. elim (ℕ_discrete l k) [ yes q ↦ rw q f | no q ↦ S.none l (omega arith) ] }
+        record { none = λ l m. elim (ℕ_discrete l k) [ yes q ↦ rw q f | no q ↦ S.none l (omega arith) ] }
 
     -- none of all places joins the end
     nobody : ((l : ℕ) → l < length set → by (get_or set (get_or order l 0) 0) ≡ false) → false ≡ any by set

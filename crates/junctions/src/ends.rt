@@ -10,26 +10,11 @@ ghost use Rattle.junctions.specs.Steps.{centre_key, first_key, last_key, Members
 use meeting::segment;
 use meeting::segment::Segment;
 
-fn both(first: bool, second: bool) -> usize
-    ensures { result ≡ one first + one second }
-{
-    if first {
-        if second {
-            return 2;
-        }
-        return 1;
-    }
-    if second {
-        return 1;
-    }
-    0
-}
-
 // Where a ruling stands among the members of its set.
 fn key_of(a: Segment) -> u64
     ensures { result ≡ centre_key a }
 {
-    sorted::offset(a.horizontal) + (a.centre2 as u64)
+    sorted::offset(a.horizontal) + u64::from(a.centre2)
 }
 
 // The first and the last key of those that may join an end of ruling a.
@@ -38,7 +23,7 @@ fn first_key(a: Segment, end: u32, join: u64) -> u64
     ensures { result ≡ first_key join end a }
 {
     let across = sorted::offset(!a.horizontal);
-    across + segment::saturating_sub(2 * (end as u64), 2 * join + 2)
+    across + (2 * u64::from(end)).saturating_sub(2 * join + 2)
 }
 
 fn last_key(a: Segment, end: u32, join: u64) -> u64
@@ -46,7 +31,7 @@ fn last_key(a: Segment, end: u32, join: u64) -> u64
     ensures { result ≡ last_key join end a }
 {
     let across = sorted::offset(!a.horizontal);
-    across + (2 * (end as u64) + (2 * join + 2))
+    across + (2 * u64::from(end) + (2 * join + 2))
 }
 
 // Writes the key of each member of the set.
@@ -54,10 +39,8 @@ fn write_keys(rects: &[u32], directions: &[u32], chosen: &[u32], set: &[u32], ke
     requires { Given rects.now directions.now chosen.now × IndexesBelow (length chosen.now) set.now × (length set.now ≤ length keys.old) }
     ensures { MembersKeyed (ruling_at rects.now directions.now chosen.now) set.now keys.new }
 {
-    let mut k = 0;
-    while k < set.len() {
-        keys[k] = key_of(segment::ruling_at(rects, directions, chosen, set[k] as usize));
-        k += 1;
+    for (k, i) in set.iter().enumerate() {
+        keys[k] = key_of(segment::ruling_at(rects, directions, chosen, *i as usize));
     }
 }
 
@@ -79,8 +62,8 @@ fn joined(
 {
     let n = set.len();
     let last = last_key(a, end, join);
-    let mut k = sorted::first_at_least(keys, order, n, first_key(a, end, join));
-    while k < n {
+    let first = sorted::first_at_least(keys, order, n, first_key(a, end, join));
+    for k in first..n {
         let m = order[k] as usize;
         if last < keys[m] {
             return false;
@@ -88,7 +71,6 @@ fn joined(
         if segment::joined_by(rects, directions, chosen, end, a, set[m] as usize, join) {
             return true;
         }
-        k += 1;
     }
     false
 }
@@ -116,7 +98,7 @@ fn joined_of(
         rects, directions, chosen, set, keys, order, join, a, a.start,
     );
     let end = joined(rects, directions, chosen, set, keys, order, join, a, a.end);
-    both(start, end)
+    usize::from(start) + usize::from(end)
 }
 
 fn joined_ends(
@@ -133,8 +115,7 @@ fn joined_ends(
     ensures { result ≡ joined_ends join (ruling_at rects.now directions.now chosen.now) set.now }
 {
     let mut joined = 0;
-    let mut k = 0;
-    while k < set.len() {
+    for i in set {
         joined += joined_of(
             rects,
             directions,
@@ -143,9 +124,8 @@ fn joined_ends(
             keys,
             order,
             join,
-            set[k] as usize,
+            *i as usize,
         );
-        k += 1;
     }
     joined
 }

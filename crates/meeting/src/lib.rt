@@ -1,5 +1,4 @@
 // What two rulings are to each other: whether they touch, and whether one joins an end of the other.
 #![tactic(auto)]
 
-pub mod listing;
 pub mod segment;

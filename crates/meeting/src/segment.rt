@@ -58,26 +58,8 @@ pub fn span_holds(a: Segment, c: u32, join: u64) -> bool
     requires { join < 2 ^ 32 }
     ensures { result ≡ span_holds join a c }
 {
-    (2 * a.start as u64 <= c as u64 + 2 * join) & (c as u64 <= 2 * (a.end as u64 + join))
-}
-
-// The difference, and 0 where there is none.
-pub fn saturating_sub(a: u64, b: u64) -> u64
-    ensures { result ≡ a - b }
-{
-    if a < b {
-        return 0;
-    }
-    a - b
-}
-
-fn distance(a: u64, b: u64) -> u64
-    ensures { result ≡ distance a b }
-{
-    if a < b {
-        return b - a;
-    }
-    a - b
+    let c = u64::from(c);
+    (2 * u64::from(a.start) <= c + 2 * join) & (c <= 2 * (u64::from(a.end) + join))
 }
 
 // Does ruling b, of the other direction, join the end of ruling a?
@@ -85,7 +67,7 @@ fn joins_end(end: u32, a: Segment, b: Segment, join: u64) -> bool
     requires { (join < 2 ^ 32) × (opposite a b ≡ true) }
     ensures { result ≡ joins_end join end a b }
 {
-    let near = distance(2 * end as u64, b.centre2 as u64) <= 2 * join + 2;
+    let near = (2 * u64::from(end)).abs_diff(u64::from(b.centre2)) <= 2 * join + 2;
     near & span_holds(b, a.centre2, join)
 }
 

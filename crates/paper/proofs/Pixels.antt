@@ -2,11 +2,12 @@
 use mathlib.Core.Path.{◌≡◌, refl, sym, ap, ◌∙◌}
 use mathlib.Core.Bool.{Bool}
 use mathlib.Core.List.{List, [], ◌∷◌, ◌++◌, map, append-nil}
-use Prim.Native.Nat.{ℕ, suc, ◌+◌, ◌*◌, ◌^◌, ◌<◌, ◌≤◌}
+use Prim.Native.Nat.{ℕ, suc, ◌+◌, ◌-◌, ◌*◌, ◌^◌, ◌<◌, ◌≤◌}
 use native.Mathlib.Nat.{suc-mul, mul-one, mul_comm, zero-mul, mul-le-mul_right}
 use native.Mathlib.Omega.{arith}
 use lib.Dec.{eqb}
-use lib.ListN.{length, get_or, length-append, length-map}
+use lib.ListN.{length, get_or, take, drop, length-append, length-map}
+use Rattle.std.proofs.lemmas.List.{get_or-take, get_or-drop, length-take, length-drop}
 use Rattle.lists.specs.Lists.{below, concat}
 use Rattle.lists.proofs.Keep.{map_append, map_map, map_same, concat_append, values_more, length_values}
 use Rattle.lists.proofs.Sizes.{keep_size_le}
@@ -23,6 +24,13 @@ pub row_inside : (w h x y n : ℕ) → x + n ≤ w → y < h → y * w + x + n �
 row_inside w h x y n X Y =
     let a : suc y * w ≤ h * w = mul-le-mul_right w Y in
     omega (arith, suc-mul y w, mul_comm h w)
+
+-- n numbers from a place of the raster on, as a slice
+pub part_length : (raster : List ℕ) (start n : ℕ) → start + n ≤ length raster → length (take (start + n - start) (drop start raster)) ≡ n
+part_length raster start n h = omega (arith, length-take (start + n - start) (drop start raster), length-drop start raster)
+
+pub part_pixel : (raster : List ℕ) (start n i : ℕ) → i < n → get_or (take (start + n - start) (drop start raster)) i 0 ≡ get_or raster (start + i) 0
+part_pixel raster start n i l = get_or-take (start + n - start) (drop start raster) i 0 (omega arith) ∙ get_or-drop start raster i 0
 
 -- ---- rows
 

@@ -1,5 +1,5 @@
 // Where the samples of the paper lie: two areas, on either side of the ruling, 3 to 6 pixels away.
-ghost use Rattle.std.specs.Prelude.{◌≡◌, ◌+◌, ◌-◌, ◌≤◌, ◌<◌, min};
+ghost use Rattle.std.specs.Prelude.{◌≤◌, ◌<◌};
 ghost use Rattle.rects.specs.Steps.{Inside};
 ghost use Rattle.paper.specs.Steps.{Beside, Sampled};
 
@@ -29,31 +29,18 @@ pub struct Areas {
     pub second: Area,
 }
 
-// a less k, and 0 below that.
-fn less(a: usize, k: usize) -> usize
-    ensures { result ≡ a - k }
-{
-    if a < k { 0 } else { a - k }
-}
-
-pub fn least(a: usize, b: usize) -> usize
-    ensures { result ≡ min a b }
-{
-    if a < b { a } else { b }
-}
-
 // The places below size that lie 3 to 6 before a or behind b.
 fn strips_of(size: usize, a: usize, b: usize) -> Strips
     requires { (a ≤ b) × (b < size) × (size ≤ 8192) }
     ensures { Beside size a b result }
 {
-    let first = less(a, 6);
-    let second = least(b + 3, size);
+    let first = a.saturating_sub(6);
+    let second = (b + 3).min(size);
     Strips {
         first,
-        firsts: less(a, 2) - first,
+        firsts: a.saturating_sub(2) - first,
         second,
-        seconds: least(b + 7, size) - second,
+        seconds: (b + 7).min(size) - second,
     }
 }
 

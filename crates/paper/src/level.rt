@@ -3,7 +3,8 @@ ghost use Rattle.std.specs.Prelude.{◌≡◌, List, ℕ, ◌<◌, ◌≤◌, �
 ghost use Rattle.paper.specs.Steps.{Tallied, TallyOf};
 ghost use Rattle.paper.specs.Median.{median};
 
-// Goes down from 255, since paper is bright, until half the samples, rounded up, are at least as bright.
+// Goes down from 255, since paper is bright, until half the samples, rounded up, are at least as bright. A `while`: what
+// ends it is what was counted and not a level, so a range would be no plainer.
 pub fn level(counts: &[u32], n: usize) -> u8
     requires { (n < 2 ^ 32) × (256 ≤ length counts.now) × TallyOf n counts.now }
     ensures { (xs : List ℕ) → length xs ≡ n → Tallied xs counts.now → result ≡ median xs }
@@ -13,7 +14,7 @@ pub fn level(counts: &[u32], n: usize) -> u8
     let mut at_least = counts[255] as usize;
     while at_least < half {
         v -= 1;
-        at_least += counts[v as usize] as usize;
+        at_least += counts[usize::from(v)] as usize;
     }
     v
 }

@@ -11,11 +11,8 @@ fn count_row(raster: &[u8], start: usize, n: usize, counts: &mut [u32])
     requires { (start + n ≤ length raster.now) × RoomFor n counts.old }
     ensures { Counted (line raster.now start n 1) counts.old counts.new }
 {
-    let mut i = 0;
-    while i < n {
-        let p = raster[start + i] as usize;
-        counts[p] += 1;
-        i += 1;
+    for p in &raster[start..start + n] {
+        counts[usize::from(*p)] += 1;
     }
 }
 
@@ -24,14 +21,8 @@ fn count_area(raster: &[u8], w: usize, h: usize, a: Area, counts: &mut [u32])
     requires { (length raster.now ≡ w * h) × AreaInside w h a × RoomFor (a.rows * a.columns) counts.old }
     ensures { Counted (pixels_of raster.now w a) counts.old counts.new }
 {
-    let x = a.x;
-    let y = a.y;
-    let columns = a.columns;
-    let rows = a.rows;
-    let mut k = 0;
-    while k < rows {
-        count_row(raster, (y + k) * w + x, columns, counts);
-        k += 1;
+    for k in 0..a.rows {
+        count_row(raster, (a.y + k) * w + a.x, a.columns, counts);
     }
 }
 

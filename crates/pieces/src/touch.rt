@@ -23,29 +23,22 @@ fn centre2(r: Rect, direction: bool) -> u64
     ensures { (result ≡ centre_in direction r) × (result < 2 ^ 33) }
 {
     if direction {
-        (r.y0 as u64) + (r.y1 as u64)
+        u64::from(r.y0) + u64::from(r.y1)
     } else {
-        (r.x0 as u64) + (r.x1 as u64)
+        u64::from(r.x0) + u64::from(r.x1)
     }
 }
 
 fn start(r: Rect, direction: bool) -> u64
     ensures { (result ≡ start_in direction r) × (result < 2 ^ 32) }
 {
-    if direction { r.x0 as u64 } else { r.y0 as u64 }
+    u64::from(if direction { r.x0 } else { r.y0 })
 }
 
 fn end(r: Rect, direction: bool) -> u64
     ensures { (result ≡ end_in direction r) × (result < 2 ^ 32) }
 {
-    if direction { r.x1 as u64 } else { r.y1 as u64 }
-}
-
-fn number_at(pieces: &[u32], at: usize) -> u32
-    requires { at < length pieces.now }
-    ensures { result ≡ get_or pieces.now at 0 }
-{
-    pieces[at]
+    u64::from(if direction { r.x1 } else { r.y1 })
 }
 
 // The doubled centre of piece j of a list, of which only the numbers that are asked for are read.
@@ -55,18 +48,17 @@ fn centre2_at(pieces: &[u32], j: usize, direction: bool) -> u64
 {
     let at = 4 * j;
     if direction {
-        (number_at(pieces, at + 1) as u64) + (number_at(pieces, at + 3) as u64)
+        u64::from(pieces[at + 1]) + u64::from(pieces[at + 3])
     } else {
-        (number_at(pieces, at) as u64) + (number_at(pieces, at + 2) as u64)
+        u64::from(pieces[at]) + u64::from(pieces[at + 2])
     }
 }
 
 // Are two doubled centres at most so far apart?
 fn near(a: u64, b: u64, reach: u64) -> bool
-    requires { (a < 2 ^ 33) × (b < 2 ^ 33) × (reach < 2 ^ 33) }
     ensures { result ≡ within reach a b }
 {
-    (a <= b + reach) & (b <= a + reach)
+    a.abs_diff(b) <= reach
 }
 
 // Where a piece stands in the sweep: at its start.
@@ -82,7 +74,7 @@ fn key_of(r: Rect) -> u64
 fn last_key(a: Rect, direction: bool, gap: u32) -> u64
     ensures { (result ≡ last_key gap direction a) × (end_in direction a < 2 ^ 32) }
 {
-    let past = gap as u64 + 1;
+    let past = u64::from(gap) + 1;
     end(a, direction) + past + sorted::offset(direction)
 }
 
@@ -92,10 +84,8 @@ fn write_keys(pieces: &[u32], keys: &mut [u64])
     ensures { Keyed pieces.now keys.new }
 {
     let n = pieces.len() / 4;
-    let mut i = 0;
-    while i < n {
+    for i in 0..n {
         keys[i] = key_of(rects::rect_at(pieces, i));
-        i += 1;
     }
 }
 
@@ -150,16 +140,14 @@ fn join_row(
     let a = rects::rect_at(pieces, i);
     let direction = is_horizontal(a);
     let centre = centre2(a, direction);
-    let reach = 2 * (across as u64);
+    let reach = 2 * u64::from(across);
     let last = last_key(a, direction, gap);
-    let mut l = k + 1;
-    while l < n {
+    for l in k + 1..n {
         let j = order[l] as usize;
         if last < keys[j] {
             return;
         }
         join_near(pieces, parents, i, j, direction, centre, reach);
-        l += 1;
     }
 }
 
@@ -181,9 +169,7 @@ pub fn join_all(
     let n = pieces.len() / 4;
     sets::begin(parents, n);
     arrange(pieces, order, work, keys);
-    let mut k = 0;
-    while k < n {
+    for k in 0..n {
         join_row(pieces, across, gap, order, keys, parents, k);
-        k += 1;
     }
 }

@@ -29,16 +29,14 @@ pub fn split(p: RulingsParams, contrasts: &[f64], printed: &mut [u32], faint: &m
 {
     let mut dark = 0;
     let mut pale = 0;
-    let mut k = 0;
-    while k < contrasts.len() {
-        if is_printed(p, contrasts[k]) {
+    for (k, contrast) in contrasts.iter().enumerate() {
+        if is_printed(p, *contrast) {
             printed[dark] = k as u32;
             dark += 1;
         } else {
             faint[pale] = k as u32;
             pale += 1;
         }
-        k += 1;
     }
     Parted {
         printed: dark,

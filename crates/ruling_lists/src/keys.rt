@@ -13,7 +13,7 @@ fn key_of(r: Rect) -> u64
     requires { Inside 8192 8192 r }
     ensures { result ≡ ruling_key r }
 {
-    (((r.y0 as u64) * 8192 + r.x0 as u64) * 8192 + r.y1 as u64) * 8192 + r.x1 as u64
+    ((u64::from(r.y0) * 8192 + u64::from(r.x0)) * 8192 + u64::from(r.y1)) * 8192 + u64::from(r.x1)
 }
 
 // The keys of the sets of a listing.
@@ -21,11 +21,9 @@ pub fn set_keys(pieces: &[u32], members: &[u32], ends: &[u32], count: usize, key
     requires { AllInside 8192 8192 pieces.now × Parts pieces.now members.now ends.now count × (count ≤ length keys.old) }
     ensures { keys.new ≡ written (ruling_keys pieces.now (parts_of members.now ends.now count)) keys.old }
 {
-    let mut k = 0;
-    while k < count {
+    for k in 0..count {
         let set = listings::members_of(members, ends, count, k);
         keys[k] = key_of(rects::bounding(pieces, set));
-        k += 1;
     }
 }
 
@@ -34,5 +32,5 @@ pub fn sort_sets(keys: &[u64], count: usize, order: &mut [u32], work: &mut [u32]
     requires { (count < 2 ^ 32) × (count ≤ length keys.now) × (count ≤ length order.old) × (count ≤ length work.old) }
     ensures { order.new ≡ written (sorted_indexes (take count keys.now)) order.old }
 {
-    sort::sort(&keys[0..count], order, work);
+    sort::sort(&keys[..count], order, work);
 }

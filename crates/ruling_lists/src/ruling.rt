@@ -20,7 +20,7 @@ impl Ruling {
     pub fn direction(self) -> u32
         ensures { result ≡ direction_number self.horizontal }
     {
-        if self.horizontal { 0 } else { 1 }
+        u32::from(!self.horizontal)
     }
 }
 

@@ -18,12 +18,10 @@ pub fn write_sets(
         members.old ends.old members.new ends.new }
 {
     let mut at = 0;
-    let mut place = 0;
-    while place < count {
+    for place in 0..count {
         let set = listings::members_of(listed, listed_ends, count, order[place] as usize);
         at = lists::append(set, members, at);
         ends[place] = at as u32;
-        place += 1;
     }
 }
 
@@ -45,13 +43,11 @@ pub fn write_rulings(
     ensures { Described raster.now w h pieces.now (parts_of members.now ends.now count)
         rects.old directions.old contrasts.old rects.new directions.new contrasts.new }
 {
-    let mut k = 0;
-    while k < count {
+    for k in 0..count {
         let set = listings::members_of(members, ends, count, k);
         let r = crate::ruling::ruling_of(raster, w, h, pieces, set);
         rects::put_rect(rects, k, r.rect);
         directions[k] = r.direction();
         contrasts[k] = r.contrast;
-        k += 1;
     }
 }

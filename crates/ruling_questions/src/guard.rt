@@ -1,4 +1,4 @@
-// The first missed of the questions, in order.
+// The first missed of the questions, in order: its number, as C has it.
 ghost use Rattle.std.specs.Prelude.{◌≡◌, ◌&&◌, ◌*◌, ◌≤◌, ◌<◌, ◌^◌};
 ghost use Rattle.questions.specs.Questions.{first_missed};
 ghost use Rattle.rects.specs.Rects.{count};

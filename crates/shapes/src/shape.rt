@@ -6,16 +6,13 @@ ghost use Rattle.meeting.specs.Steps.{Given, IndexesBelow};
 ghost use Rattle.shapes.specs.Steps.{Collected, LinesCounted, Shaped};
 
 use crate::limits::Limits;
+use meeting::segment;
 use meeting::segment::Segment;
-use meeting::{listing, segment};
 
 fn in_direction(a: Segment, horizontal: bool) -> bool
     ensures { result ≡ in_direction horizontal a }
 {
-    if horizontal {
-        return a.horizontal;
-    }
-    !a.horizontal
+    a.horizontal == horizontal
 }
 
 // Writes the line positions of the set's rulings in a direction, and returns how many there are. What is written for a ruling
@@ -33,12 +30,10 @@ fn collect(
         keys.new result }
 {
     let mut n = 0;
-    let mut k = 0;
-    while k < set.len() {
-        let a = segment::ruling_at(rects, directions, chosen, set[k] as usize);
-        keys[n] = (a.centre2 / 2) as u64;
-        n = listing::next(n, in_direction(a, horizontal));
-        k += 1;
+    for i in set {
+        let a = segment::ruling_at(rects, directions, chosen, *i as usize);
+        keys[n] = u64::from(a.centre2 / 2);
+        n += usize::from(in_direction(a, horizontal));
     }
     n
 }

@@ -45,8 +45,7 @@ pub fn choose(
 {
     let mut tables = 0;
     let mut at = 0;
-    let mut k = 0;
-    while k < count {
+    for k in 0..count {
         let set = listings::members_of(members, ends, count, k);
         let found = shape::shape_of(rects, directions, chosen, set, limits, keys, order, work);
         if found.table {
@@ -57,7 +56,6 @@ pub fn choose(
         } else {
             at = lists::append(set, free, at);
         }
-        k += 1;
     }
     Found { tables, free: at }
 }
@@ -69,11 +67,9 @@ fn around_set(rects: &[u32], directions: &[u32], chosen: &[u32], set: &[u32]) ->
 {
     let first = chosen[set[0] as usize] as usize;
     let mut r = rects::rect_at(rects, first);
-    let mut k = 1;
-    while k < set.len() {
-        let place = chosen[set[k] as usize] as usize;
+    for i in &set[1..] {
+        let place = chosen[*i as usize] as usize;
         r = rects::union_rect(r, rects::rect_at(rects, place));
-        k += 1;
     }
     r
 }
@@ -96,11 +92,9 @@ pub fn bound(
     ensures { Bounded rects.now chosen.now
         (members_of members.now ends.now count) (take tables numbers.now) out.old out.new }
 {
-    let mut t = 0;
-    while t < tables {
+    for t in 0..tables {
         let set = listings::members_of(members, ends, count, numbers[t] as usize);
         rects::put_rect(out, t, around_set(rects, directions, chosen, set));
-        t += 1;
     }
 }
 
@@ -129,11 +123,9 @@ pub fn measure(
         (members_of members.now ends.now count) (take tables numbers.now)
         rulings.old shares.old rulings.new shares.new }
 {
-    let mut t = 0;
-    while t < tables {
+    for t in 0..tables {
         let set = listings::members_of(members, ends, count, numbers[t] as usize);
         rulings[t] = set.len() as u32;
         shares[t] = ends::share(rects, directions, chosen, set, join, order, work, keys);
-        t += 1;
     }
 }

@@ -1,4 +1,4 @@
-// The first missed of the questions, in order.
+// The first missed of the questions, in order: its number, as C has it.
 ghost use Rattle.std.specs.Prelude.{◌≡◌};
 ghost use Rattle.questions.specs.Questions.{first_missed};
 ghost use Rattle.table_questions.specs.Questions.{directions_fit, table_questions};
@@ -9,18 +9,7 @@ use params::settings::RulingsParams;
 fn directions_fit(rects: &[u32], directions: &[u32]) -> bool
     ensures { result ≡ directions_fit rects.now directions.now }
 {
-    let n = directions.len();
-    if n != rects.len() / 4 {
-        return false;
-    }
-    let mut k = 0;
-    while k < n {
-        if 1 < directions[k] {
-            return false;
-        }
-        k += 1;
-    }
-    true
+    directions.len() == rects.len() / 4 && directions.iter().all(|d| *d <= 1)
 }
 
 pub fn room_for_tables(

@@ -17,12 +17,6 @@ moved P x y u v = rw (x, y, u, v) P
 pub loop-k-init : goal.loop-k-init
 loop-k-init c = begin c.args.p c.args.contrasts.now c.args.printed.now c.args.faint.now
 
-pub offset_bounds-contrasts-k : goal.offset_bounds-contrasts-k
-offset_bounds-contrasts-k c = omega (arith, c.loop-k-test.true, c.requires.few)
-
-pub bounds-contrasts-k : goal.bounds-contrasts-k
-bounds-contrasts-k c = c.loop-k-test.true
-
 pub overflow_cast-printed : goal.overflow_cast-printed
 overflow_cast-printed c =
     omega (arith, c.loop-k-test.true, c.requires.few, low_dark c.args.p c.args.contrasts.now c.loop-k.invariant)
@@ -56,12 +50,6 @@ pub overflow_add-pale : goal.overflow_add-pale
 overflow_add-pale c =
     omega (arith, c.loop-k-test.true, c.requires.few, low_pale c.args.p c.args.contrasts.now c.loop-k.invariant)
 
-pub overflow_add-k : goal.overflow_add-k
-overflow_add-k c = omega (arith, c.loop-k-test.true, c.requires.few)
-
-pub loop-k-smaller : goal.loop-k-smaller
-loop-k-smaller c = omega (arith, c.loop-k-test.true)
-
 pub loop-k-preserved : goal.loop-k-preserved
 loop-k-preserved c =
     let P = c.loop-k.invariant in
@@ -72,11 +60,5 @@ loop-k-preserved c =
       | else-is_printed w ↦ moved (on_pale c.args.p c.args.contrasts.now P l c.requires.faint e w.if-is_printed.false) w.printed-is w.faint-is w.dark-is w.pale-is
     ]
 
-pub shape_of-printed : goal.shape_of-printed
-shape_of-printed c = c.loop-k.invariant.dark.long
-
-pub shape_of-faint : goal.shape_of-faint
-shape_of-faint c = c.loop-k.invariant.pale.long
-
 pub returns : goal.returns
-returns c = done c.args.p c.args.contrasts.now c.loop-k.invariant c.loop-k-test.false
+returns c = done c.args.p c.args.contrasts.now c.loop-k.invariant (omega arith)

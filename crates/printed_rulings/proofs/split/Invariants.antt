@@ -2,7 +2,7 @@
 use mathlib.Core.Path.{◌≡◌, sym, ap, subst, ◌∙◌}
 use mathlib.Core.Bool.{Bool, true, false, not}
 use mathlib.Core.List.{List}
-use Prim.Native.Nat.{ℕ, ◌+◌, ◌-◌, ◌≤◌, ◌<◌, zero-le}
+use Prim.Native.Nat.{ℕ, ◌+◌, ◌≤◌, ◌<◌}
 use native.Mathlib.Omega.{arith}
 use lib.Ieee.{Float, nan}
 use lib.ListN.{length, get_or, set}
@@ -20,12 +20,11 @@ module _ (p : RulingsParams) (cs : List Float) where
   is_pale k = not (printed p (get_or cs k nan))
 
   pub record Progress (ps fs ps' fs' : List ℕ) (a b k : ℕ) : Type 0 where
-    pub up_to : k ≤ length cs
     pub dark : Gathered is_dark k ps ps' a
     pub pale : Gathered is_pale k fs fs' b
 
   pub begin : (ps fs : List ℕ) → Progress ps fs ps fs 0 0 0
-  begin ps fs = record { up_to = zero-le; dark = gathered_none is_dark ps; pale = gathered_none is_pale fs }
+  begin ps fs = record { dark = gathered_none is_dark ps; pale = gathered_none is_pale fs }
 
   module _ {ps fs ps' fs' : List ℕ} {a b k : ℕ} (P : Progress ps fs ps' fs' a b k) where
     pub low_dark : a ≤ k
@@ -37,22 +36,18 @@ module _ (p : RulingsParams) (cs : List Float) where
     pub on_dark : {t : Bool} → k < length cs → length cs ≤ length ps → t ≡ is_dark k → t ≡ true → Progress ps fs (set ps' a k) fs' (a + 1) b (k + 1)
     on_dark l room e h =
         let d : is_dark k ≡ true = sym e ∙ h in
-        record { up_to = omega arith; dark = gathered_one is_dark P.dark d (omega arith); pale = gathered_past is_pale P.pale (ap not d) }
+        record { dark = gathered_one is_dark P.dark d (omega arith); pale = gathered_past is_pale P.pale (ap not d) }
 
     pub on_pale : {t : Bool} → k < length cs → length cs ≤ length fs → t ≡ is_dark k → t ≡ false → Progress ps fs ps' (set fs' b k) a (b + 1) (k + 1)
     on_pale l room e h =
         let d : is_dark k ≡ false = sym e ∙ h in
-        record { up_to = omega arith; dark = gathered_past is_dark P.dark d; pale = gathered_one is_pale P.pale (ap not d) (omega arith) }
+        record { dark = gathered_past is_dark P.dark d; pale = gathered_one is_pale P.pale (ap not d) (omega arith) }
 
-    pub done : length cs ≤ k → SplitByContrast p cs ps fs ps' fs' a b
-    done h =
-        let end : k ≡ length cs = omega (arith, P.up_to) in
+    pub done : k ≡ length cs → SplitByContrast p cs ps fs ps' fs' a b
+    done end =
         let D = subst (λ (m : ℕ). Gathered is_dark m ps ps' a) end P.dark in
         let F = subst (λ (m : ℕ). Gathered is_pale m fs fs' b) end P.pale in
         record { printed_count = D.count; faint_count = F.count; printed_list = D.content; faint_list = F.content }
 
 abbrev pub invariant-loop-k : goal.invariant-loop-k
 invariant-loop-k l = Progress l.p l.contrasts l.initial.printed l.initial.faint l.printed l.faint l.dark l.pale l.k
-
-abbrev pub decreases-loop-k : goal.decreases-loop-k
-decreases-loop-k l = length l.contrasts - l.k

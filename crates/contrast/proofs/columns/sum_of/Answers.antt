@@ -1,34 +1,30 @@
--- `contrast::columns::sum_of` meets its contract: after i turns `sum` is that of the first i values.
+-- `contrast::columns::sum_of` meets its contract: `sum` is that of the values before the next.
 use mathlib.Core.Path.{◌≡◌, refl, ap}
 use native.Mathlib.Omega.{arith}
 use mathlib.Core.List.{map}
 use lib.ListN.{get_or}
+use Rattle.std.proofs.lemmas.List.{get_or-take, length-take}
 use Rattle.lists.specs.Lists.{below}
 use Rattle.lists.proofs.Keep.{values_more}
 use Rattle.math.specs.Sum.{total}
 use Rattle.contrast.proofs.Lines.{total_more}
 use Rattle.contrast.proofs.columns.sum_of.Goals as goal
 
-pub loop-i-init : goal.loop-i-init
+pub loop-v-init : goal.loop-v-init
 unfolding total
-loop-i-init c = (omega arith, omega arith, refl)
+loop-v-init c = (omega arith, refl)
 
-pub overflow_cast-sum : goal.overflow_cast-sum
-overflow_cast-sum c = omega (arith, c.shared_slice_known-1.given c.loop-i.i)
-
-pub overflow_add-sum : goal.overflow_add-sum
-overflow_add-sum c = omega (arith, c.shared_slice_known-1.given c.loop-i.i)
-
-pub loop-i-preserved : goal.loop-i-preserved
-loop-i-preserved c =
+pub loop-v-preserved : goal.loop-v-preserved
+loop-v-preserved c =
     let values = c.args.values.now in
-    let byte = c.shared_slice_known-1.given c.loop-i.i in (
-      omega arith,
-      omega arith,
-      omega (arith, c.loop-i.invariant.2, ap total (values_more (λ k. get_or values k 0) c.loop-i.i), total_more (map (λ k. get_or values k 0) (below c.loop-i.i)) (get_or values c.loop-i.i 0)),
+    let i = c.loop-v.v-index in
+    let x = get_or values i 0 in
+    let e = get_or-take c.args.n values i 0 (omega (arith, length-take c.args.n values)) in (
+      omega (arith, c.from-sum.ensures, e),
+      omega (arith, c.loop-v.invariant.1, c.from-sum.ensures, e, ap total (values_more (λ k. get_or values k 0) i), total_more (map (λ k. get_or values k 0) (below i)) x),
     )
 
 pub returns : goal.returns
 returns c =
-    let end : c.loop-i.i ≡ c.args.n = omega arith in
-    rw end at c.loop-i.invariant.2
+    let end : c.loop-v.v-index ≡ c.args.n = omega (arith, length-take c.args.n c.args.values.now) in
+    rw end at c.loop-v.invariant.1

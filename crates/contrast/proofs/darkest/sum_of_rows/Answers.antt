@@ -11,7 +11,7 @@ use Rattle.contrast.proofs.darkest.sum_of_rows.Goals as goal
 
 pub loop-i-init : goal.loop-i-init
 unfolding total
-loop-i-init c = (omega arith, omega arith, refl)
+loop-i-init c = (omega arith, refl)
 
 -- the next row lies in the raster
 inside : (c : In-loop-i) → c.args.start + c.loop-i.i * c.args.w + c.args.columns ≤ length c.args.raster.now
@@ -31,22 +31,18 @@ byte c =
     let start = c.args in
     rw c.darkest_of.ensures (darkest_le (line start.raster.now (start.start + c.loop-i.i * start.w) start.columns 1))
 
-pub overflow_cast-sum : goal.overflow_cast-sum
-overflow_cast-sum c = omega (arith, byte c)
-
 pub overflow_add-sum : goal.overflow_add-sum
-overflow_add-sum c = omega (arith, byte c, c.requires.0)
+overflow_add-sum c = omega (arith, c.from-sum.ensures, byte (goal.at.overflow_add-sum c).After-darkest_of, c.requires.0)
 
 pub loop-i-preserved : goal.loop-i-preserved
 loop-i-preserved c =
     let start = c.args in
-    let b = byte c in (
-      omega arith,
-      omega arith,
-      omega (arith, c.loop-i.invariant.2, c.darkest_of.ensures, sum_more start.raster.now start.start c.loop-i.i start.columns start.w),
+    let b = byte (goal.at.loop-i-preserved c).After-darkest_of in (
+      omega (arith, c.from-sum.ensures),
+      omega (arith, c.loop-i.invariant.1, c.from-sum.ensures, c.darkest_of.ensures, sum_more start.raster.now start.start c.loop-i.i start.columns start.w),
     )
 
 pub returns : goal.returns
 returns c =
     let end : c.loop-i.i ≡ c.args.n = omega arith in
-    rw end at c.loop-i.invariant.2
+    rw end at c.loop-i.invariant.1

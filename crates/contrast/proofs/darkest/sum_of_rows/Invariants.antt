@@ -1,12 +1,9 @@
 -- `contrast::darkest::sum_of_rows` meets its contract: after i turns `sum` is that of the first i rows.
 use mathlib.Core.Path.{◌≡◌}
-use Prim.Native.Nat.{◌-◌, ◌*◌, ◌≤◌}
+use Prim.Native.Nat.{◌*◌, ◌≤◌}
 use Rattle.math.specs.Sum.{total}
 use Rattle.contrast.specs.Steps.{rows_darkest}
 use Rattle.contrast.proofs.darkest.sum_of_rows.Given as goal
 
 abbrev pub invariant-loop-i : goal.invariant-loop-i
-invariant-loop-i l = (l.i ≤ l.n) × (l.sum ≤ 255 * l.i) × (l.sum ≡ total (rows_darkest l.raster l.start l.i l.columns l.w))
-
-abbrev pub decreases-loop-i : goal.decreases-loop-i
-decreases-loop-i l = l.n - l.i
+invariant-loop-i l = (l.sum ≤ 255 * l.i) × (l.sum ≡ total (rows_darkest l.raster l.start l.i l.columns l.w))

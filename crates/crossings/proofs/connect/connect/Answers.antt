@@ -47,21 +47,6 @@ pub list-requires : goal.list-requires
 list-requires c =
     (c.join_all.ensures.parents, kept_room c.requires.chosen_in_bounds.0 c.arrange.auto.order, c.requires.chosen_in_bounds.1, c.requires.join_bound.3)
 
-pub shape_of-parents : goal.shape_of-parents
-shape_of-parents c = c.list.auto.parents ∙ c.join_all.auto.parents ∙ c.arrange.auto.work
-
-pub shape_of-work : goal.shape_of-work
-shape_of-work c = c.list.auto.work
-
-pub shape_of-keys : goal.shape_of-keys
-shape_of-keys c = c.write_keys.auto.keys
-
-pub shape_of-members : goal.shape_of-members
-shape_of-members c = c.list.auto.members ∙ c.arrange.auto.order
-
-pub shape_of-ends : goal.shape_of-ends
-shape_of-ends c = c.list.auto.ends
-
 pub returns : goal.returns
 returns c =
     listed c.args.join (ruling_at c.args.rects.now c.args.directions.now c.args.chosen.now) c.args.members.now c.join_all.ensures c.arrange.ensures.1 c.list.ensures

@@ -26,12 +26,12 @@ first_at_least-past-requires c = c.requires.join_bound.2.ordered
 pub first_key-requires : goal.first_key-requires
 first_key-requires c = c.requires.join_bound.0
 
-pub first_at_least-k-requires : goal.first_at_least-k-requires
-first_at_least-k-requires c = c.requires.join_bound.2.ordered
+pub first_at_least-first-requires : goal.first_at_least-first-requires
+first_at_least-first-requires c = c.requires.join_bound.2.ordered
 
 pub loop-k-init : goal.loop-k-init
 loop-k-init c =
-    begun c.args.join (ruling_at c.args.rects.now c.args.directions.now c.args.chosen.now) (length c.args.chosen.now) c.args.keys.now c.args.order.now (centre_small c.requires.join_bound.1) c.requires.join_bound.2 c.ruling_at-b.ensures c.if-b.false c.last_key.ensures c.first_at_least-past.ensures c.first_key.ensures c.first_at_least-k.ensures c.requires.joins
+    begun c.args.join (ruling_at c.args.rects.now c.args.directions.now c.args.chosen.now) (length c.args.chosen.now) c.args.keys.now c.args.order.now (centre_small c.requires.join_bound.1) c.requires.join_bound.2 c.ruling_at-b.ensures c.if-b.false c.last_key.ensures c.first_at_least-past.ensures c.first_key.ensures c.first_at_least-first.ensures c.requires.joins
 
 pub offset_bounds-order-k : goal.offset_bounds-order-k
 offset_bounds-order-k c = omega (arith, c.loop-k-test.true, c.loop-k.invariant.to.up_to, c.requires.join_bound.1.few)
@@ -41,25 +41,16 @@ bounds-order-k c = omega (arith, c.loop-k-test.true, c.loop-k.invariant.to.up_to
 
 pub overflow_cast-order : goal.overflow_cast-order
 overflow_cast-order c =
-    omega (arith, (crossing c.args.join (ruling_at c.args.rects.now c.args.directions.now c.args.chosen.now) (length c.args.chosen.now) c.args.keys.now c.args.order.now (centre_small c.requires.join_bound.1) c.requires.join_bound.2 c.loop-k.invariant c.loop-k-test.true).1, c.requires.join_bound.1.few)
+    omega (arith, (crossing c.args.join (ruling_at c.args.rects.now c.args.directions.now c.args.chosen.now) (length c.args.chosen.now) c.args.keys.now c.args.order.now (centre_small c.requires.join_bound.1) c.requires.join_bound.2 c.loop-k.invariant c.loop-k.auto.k c.loop-k-test.true).1, c.requires.join_bound.1.few)
 
 pub join_held-requires : goal.join_held-requires
 join_held-requires c =
-    let m = crossing c.args.join (ruling_at c.args.rects.now c.args.directions.now c.args.chosen.now) (length c.args.chosen.now) c.args.keys.now c.args.order.now (centre_small c.requires.join_bound.1) c.requires.join_bound.2 c.loop-k.invariant c.loop-k-test.true in
+    let m = crossing c.args.join (ruling_at c.args.rects.now c.args.directions.now c.args.chosen.now) (length c.args.chosen.now) c.args.keys.now c.args.order.now (centre_small c.requires.join_bound.1) c.requires.join_bound.2 c.loop-k.invariant c.loop-k.auto.k c.loop-k-test.true in
     record { join_bound = (c.requires.join_bound.0, c.requires.join_bound.1, c.loop-k.invariant.seen.parents, c.requires.join_bound.3, m.1); j_value = m.2 }
-
-pub overflow_add-k : goal.overflow_add-k
-overflow_add-k c = omega (arith, c.loop-k-test.true, c.loop-k.invariant.to.up_to, c.requires.join_bound.1.few)
-
-pub loop-k-smaller : goal.loop-k-smaller
-loop-k-smaller c = omega (arith, c.loop-k-test.true)
 
 pub loop-k-preserved : goal.loop-k-preserved
 loop-k-preserved c =
-    turn c.args.join (ruling_at c.args.rects.now c.args.directions.now c.args.chosen.now) (length c.args.chosen.now) c.args.keys.now c.args.order.now (centre_small c.requires.join_bound.1) c.requires.join_bound.2 c.loop-k.invariant c.requires.join_bound.3 c.loop-k-test.true c.join_held.auto.parents c.join_held.ensures
-
-pub shape_of-parents : goal.shape_of-parents
-shape_of-parents c = c.loop-k.invariant.long
+    turn c.args.join (ruling_at c.args.rects.now c.args.directions.now c.args.chosen.now) (length c.args.chosen.now) c.args.keys.now c.args.order.now (centre_small c.requires.join_bound.1) c.requires.join_bound.2 c.loop-k.invariant c.requires.join_bound.3 c.loop-k.auto.k c.loop-k-test.true c.join_held.ensures
 
 pub returns : goal.returns
 returns c =

@@ -17,21 +17,12 @@ pub offset_bounds-keys-k : goal.offset_bounds-keys-k
 offset_bounds-keys-k c = omega (arith, c.loop-k-test.true, c.requires.0.few)
 
 pub bounds-keys-k : goal.bounds-keys-k
-bounds-keys-k c = omega (arith, c.loop-k-test.true, c.requires.1, c.loop-k.invariant.long)
-
-pub overflow_add-k : goal.overflow_add-k
-overflow_add-k c = omega (arith, c.loop-k-test.true, c.requires.0.few)
-
-pub loop-k-smaller : goal.loop-k-smaller
-loop-k-smaller c = omega (arith, c.loop-k-test.true)
+bounds-keys-k c = omega (arith, c.requires.1)
 
 pub loop-k-preserved : goal.loop-k-preserved
 loop-k-preserved c =
     let s = ruling_at c.args.rects.now c.args.directions.now c.args.chosen.now in
     write_turn (ruling_key_lem s) (length c.args.chosen.now) c.args.keys.now c.loop-k.invariant c.loop-k-test.true c.requires.1 (read s c.loop-k.k c.ruling_at.ensures c.key_of.ensures)
-
-pub shape_of-keys : goal.shape_of-keys
-shape_of-keys c = c.loop-k.invariant.long
 
 pub returns : goal.returns
 returns c = λ i h. c.loop-k.invariant.done i (omega (arith, c.loop-k-test.false))

@@ -1,6 +1,6 @@
 -- `connect::write_keys` meets its contract: one key more a turn.
 use mathlib.Core.Path.{◌≡◌, ap, ◌∙◌}
-use Prim.Native.Nat.{ℕ, ◌-◌}
+use Prim.Native.Nat.{ℕ}
 use lib.ListN.{length}
 use Rattle.sorted.proofs.Writing.{Writing}
 use Rattle.meeting.specs.declared.segment.Segment.{Segment}
@@ -17,6 +17,3 @@ module _ (s : ℕ → Segment) where
 
 abbrev pub invariant-loop-k : goal.invariant-loop-k
 invariant-loop-k l = Writing (ruling_key_lem (ruling_at l.rects l.directions l.chosen)) (length l.chosen) l.initial.keys l.keys l.k
-
-abbrev pub decreases-loop-k : goal.decreases-loop-k
-decreases-loop-k l = length l.chosen - l.k

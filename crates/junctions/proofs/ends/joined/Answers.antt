@@ -24,12 +24,12 @@ last_key-last-requires c = c.requires.0
 pub first_key-requires : goal.first_key-requires
 first_key-requires c = c.requires.0
 
-pub first_at_least-k-requires : goal.first_at_least-k-requires
-first_at_least-k-requires c = c.requires.3.ordered
+pub first_at_least-first-requires : goal.first_at_least-first-requires
+first_at_least-first-requires c = c.requires.3.ordered
 
 pub loop-k-init : goal.loop-k-init
 loop-k-init c =
-    search_begin c.args.join (ruling_at c.args.rects.now c.args.directions.now c.args.chosen.now) c.args.set.now c.args.a c.args.end c.requires.3 (from_first c.first_key.ensures c.first_at_least-k.ensures)
+    search_begin c.args.join (ruling_at c.args.rects.now c.args.directions.now c.args.chosen.now) c.args.set.now c.args.a c.args.end c.requires.3 (from_first c.first_key.ensures c.first_at_least-first.ensures)
 
 pub offset_bounds-order-k : goal.offset_bounds-order-k
 offset_bounds-order-k c =
@@ -67,12 +67,6 @@ joined_by-requires c =
 pub returns-then-joined_by : goal.returns-then-joined_by
 returns-then-joined_by c =
     search_found c.args.join (ruling_at c.args.rects.now c.args.directions.now c.args.chosen.now) c.args.set.now c.args.a c.args.end c.requires.3 c.loop-k-test.true (sym c.joined_by.ensures ∙ c.if-joined_by.true)
-
-pub overflow_add-k : goal.overflow_add-k
-overflow_add-k c = omega (arith, c.loop-k-test.true, c.requires.3.ordered.small)
-
-pub loop-k-smaller : goal.loop-k-smaller
-loop-k-smaller c = omega (arith, c.loop-k-test.true)
 
 pub loop-k-preserved : goal.loop-k-preserved
 loop-k-preserved c =

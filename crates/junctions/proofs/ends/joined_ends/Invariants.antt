@@ -2,7 +2,7 @@
 use mathlib.Core.Path.{◌≡◌}
 use mathlib.Core.Bool.{Bool}
 use mathlib.Core.List.{List}
-use Prim.Native.Nat.{ℕ, ◌+◌, ◌-◌, ◌*◌, ◌≤◌, ◌<◌}
+use Prim.Native.Nat.{ℕ, ◌+◌, ◌*◌, ◌≤◌, ◌<◌}
 use native.Mathlib.Omega.{arith}
 use lib.ListN.{length, get_or, drop}
 use Rattle.lists.specs.Lists.{one, keep}
@@ -20,18 +20,16 @@ module _ (join : ℕ) (s : ℕ → Segment) (set : List ℕ) where
   stops i = end_joined join s set (s i).end i
 
   pub record Counted (joined k : ℕ) : Type 0 where
-    pub up_to : k ≤ length set
     pub total : joined + (length (keep starts (drop k set)) + length (keep stops (drop k set))) ≡ joined_ends join s set
     pub low : joined ≤ 2 * k
 
   pub begun : Counted 0 0
   unfolding joined_ends
-  begun = record { up_to = omega arith; total = omega arith; low = omega arith }
+  begun = record { total = omega arith; low = omega arith }
 
   pub turn : {joined k r : ℕ} → Counted joined k → k < length set → r ≡ one (starts (get_or set k 0)) + one (stops (get_or set k 0)) → Counted (joined + r) (k + 1)
   turn {joined} {k} {r} C h e =
       record {
-        up_to = omega arith;
         total = omega (arith, C.total, kept_step starts set k h, kept_step stops set k h);
         low = omega (arith, C.low, one_le (starts (get_or set k 0)), one_le (stops (get_or set k 0)));
       }
@@ -42,8 +40,5 @@ module _ (join : ℕ) (s : ℕ → Segment) (set : List ℕ) where
   pub few : {r : ℕ} (i : ℕ) → r ≡ one (starts i) + one (stops i) → r ≤ 2
   few i e = omega (arith, one_le (starts i), one_le (stops i))
 
-abbrev pub invariant-loop-k : goal.invariant-loop-k
-invariant-loop-k l = Counted l.join (ruling_at l.rects l.directions l.chosen) l.set l.joined l.k
-
-abbrev pub decreases-loop-k : goal.decreases-loop-k
-decreases-loop-k l = length l.set - l.k
+abbrev pub invariant-loop-i : goal.invariant-loop-i
+invariant-loop-i l = Counted l.join (ruling_at l.rects l.directions l.chosen) l.set l.joined l.i-index

@@ -1,13 +1,18 @@
 -- `ends::joined_of` meets its contract: each end is asked of the whole set.
-use mathlib.Core.Path.{◌≡◌, ap, ap₂, ◌∙◌}
-use mathlib.Core.Bool.{Bool}
+use mathlib.Core.Path.{◌≡◌, refl, ap, ap₂, ◌∙◌}
+use mathlib.Core.Bool.{Bool, true, false}
 use mathlib.Core.List.{List}
 use Prim.Native.Nat.{ℕ, ◌+◌}
+use Rattle.std.specs.Int.{from_bool}
 use Rattle.lists.specs.Lists.{one, any}
 use Rattle.meeting.specs.declared.segment.Segment.{Segment}
 use Rattle.meeting.specs.Segments.{ruling_at, joins_end}
 use Rattle.meeting.specs.Meeting.{end_joined}
 use Rattle.junctions.proofs.ends.joined_of.Goals as goal
+
+one_number : (b : Bool) → from_bool b ≡ one b
+one_number true = refl
+one_number false = refl
 
 module _ (join : ℕ) (s : ℕ → Segment) (set : List ℕ) (i : ℕ) where
   -- an end of the ruling, as it was read
@@ -21,4 +26,4 @@ module _ (join : ℕ) (s : ℕ → Segment) (set : List ℕ) (i : ℕ) where
 
 pub returns : goal.returns
 returns c =
-    counted c.args.join (ruling_at c.args.rects.now c.args.directions.now c.args.chosen.now) c.args.set.now c.args.i c.ruling_at-a.ensures c.joined-start.ensures c.joined-end.ensures c.both.ensures
+    counted c.args.join (ruling_at c.args.rects.now c.args.directions.now c.args.chosen.now) c.args.set.now c.args.i c.ruling_at-a.ensures c.joined-start.ensures c.joined-end.ensures (ap₂ ◌+◌ (c.from.ensures ∙ one_number c.joined-start.result) (c.from-2.ensures ∙ one_number c.joined-end.result))

@@ -12,16 +12,6 @@ pub loop-k-init : goal.loop-k-init
 loop-k-init c =
     write_begin (member_key (ruling_at c.args.rects.now c.args.directions.now c.args.chosen.now) c.args.set.now) (length c.args.set.now) c.args.keys.now
 
-pub offset_bounds-set-k : goal.offset_bounds-set-k
-offset_bounds-set-k c =
-    scaled_Fits c.loop-k.k (length c.args.set.now) 4 c.loop-k-test.true c.well_formed.1.1.1.0.1
-
-pub bounds-set-k : goal.bounds-set-k
-bounds-set-k c = c.loop-k-test.true
-
-pub overflow_cast-set : goal.overflow_cast-set
-overflow_cast-set c = omega (arith, c.shared_slice_known-in-loop-k-1.given c.loop-k.k)
-
 pub ruling_at-requires : goal.ruling_at-requires
 ruling_at-requires c =
     (c.requires.0, member_within c.args.set.now c.requires.1 c.loop-k.k c.loop-k-test.true)
@@ -31,21 +21,12 @@ offset_bounds-keys-k c =
     scaled_Fits c.loop-k.k (length c.args.keys.now) 8 (omega (arith, c.loop-k-test.true, c.requires.2)) c.well_formed.1.1.1.1.0.1
 
 pub bounds-keys-k : goal.bounds-keys-k
-bounds-keys-k c = omega (arith, c.loop-k-test.true, c.requires.2, c.loop-k.invariant.long)
-
-pub overflow_add-k : goal.overflow_add-k
-overflow_add-k c = omega (arith, c.loop-k-test.true, c.requires.1.short, c.requires.0.few)
-
-pub loop-k-smaller : goal.loop-k-smaller
-loop-k-smaller c = omega (arith, c.loop-k-test.true)
+bounds-keys-k c = omega (arith, c.requires.2)
 
 pub loop-k-preserved : goal.loop-k-preserved
 loop-k-preserved c =
     let s = ruling_at c.args.rects.now c.args.directions.now c.args.chosen.now in
     write_turn (member_key s c.args.set.now) (length c.args.set.now) c.args.keys.now c.loop-k.invariant c.loop-k-test.true c.requires.2 (read s c.args.set.now c.loop-k.k c.ruling_at.ensures c.key_of.ensures)
-
-pub shape_of-keys : goal.shape_of-keys
-shape_of-keys c = c.loop-k.invariant.long
 
 pub returns : goal.returns
 returns c = λ i h. c.loop-k.invariant.done i (omega (arith, c.loop-k-test.false))

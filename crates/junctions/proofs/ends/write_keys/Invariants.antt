@@ -1,7 +1,7 @@
 -- `ends::write_keys` meets its contract: one key more a turn.
 use mathlib.Core.Path.{◌≡◌, ap, ◌∙◌}
 use mathlib.Core.List.{List}
-use Prim.Native.Nat.{ℕ, ◌-◌}
+use Prim.Native.Nat.{ℕ}
 use lib.ListN.{length, get_or}
 use Rattle.sorted.proofs.Writing.{Writing}
 use Rattle.meeting.specs.declared.segment.Segment.{Segment}
@@ -19,6 +19,3 @@ module _ (s : ℕ → Segment) (set : List ℕ) where
 
 abbrev pub invariant-loop-k : goal.invariant-loop-k
 invariant-loop-k l = Writing (member_key (ruling_at l.rects l.directions l.chosen) l.set) (length l.set) l.initial.keys l.keys l.k
-
-abbrev pub decreases-loop-k : goal.decreases-loop-k
-decreases-loop-k l = length l.set - l.k

@@ -2,6 +2,7 @@
 use mathlib.Core.Path.{◌≡◌, refl}
 use mathlib.Core.Bool.{Bool, true, ◌&&◌}
 use Prim.Native.Nat.{ℕ, ◌+◌, ◌*◌}
+use native.Mathlib.Omega.{arith}
 use lib.Dec.{leb}
 use Rattle.meeting.specs.declared.segment.Segment.{Segment}
 use Rattle.meeting.specs.Segments.{opposite, span_holds, joins_end}
@@ -14,4 +15,7 @@ unfolding joins_end
 parts join e a b o g h = rw (o, g, h) refl
 
 pub returns : goal.returns
-returns c = parts c.args.join c.args.end c.args.a c.args.b c.requires.1 c.distance.ensures c.span_holds.ensures
+returns c =
+    let a = c.args in
+    let apart : c.abs_diff.result ≡ distance (2 * a.end) a.b.centre2 = omega (arith, c.abs_diff.ensures) in
+    parts a.join a.end a.a a.b c.requires.1 apart c.span_holds.ensures

@@ -9,7 +9,7 @@ returns c =
     let a = c.requires.0 in
     let b = c.requires.1 in
     record {
-      places = rw (c.less-first.ensures, c.less.ensures, c.least-second.ensures, c.least.ensures) (beside_runs start.a start.b a start.size b);
+      places = rw (c.saturating_sub-first.ensures, c.saturating_sub.ensures, c.min-second.ensures, c.min.ensures) (beside_runs start.a start.b a start.size b);
       first_inside = omega arith;
       second_inside = omega arith;
       few = omega arith;

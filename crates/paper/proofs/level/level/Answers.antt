@@ -8,11 +8,11 @@ use mathlib.Core.Logic.{inl, inr}
 use lib.ListN.{get_or}
 use Rattle.paper.proofs.Levels.{count_le, brightest, above_zero, next_down, level_is}
 use Rattle.paper.proofs.level.level.Invariants.{Down}
-use Rattle.paper.proofs.level.level.Goals.{After-shared_slice_known-1, After-shared_slice_known-in-loop-at_least-1, In-loop-at_least}
+use Rattle.paper.proofs.level.level.Goals.{Start, In-loop-at_least}
 use Rattle.paper.proofs.level.level.Goals as goal
 
 -- some samples have these counts
-within : (c : After-shared_slice_known-1) → get_or c.args.counts.now 255 0 ≤ c.args.n
+within : (c : Start) → get_or c.args.counts.now 255 0 ≤ c.args.n
 within c =
     let s = c.requires.2 in
     omega (arith, count_le s.0 c.args.counts.now s.2 255 (omega arith), s.1)
@@ -29,7 +29,7 @@ next counts n half v at_least p l few down xs e t =
     let d = down xs e t in
     (rw d.0 (next_down xs counts t v p l), inr (rw (sub-add_cancel p) (rw (← d.0) few)))
 
-within_2 : (c : After-shared_slice_known-in-loop-at_least-1) → (c.loop-at_least.at_least < 2 ^ 32) × (get_or c.args.counts.now (c.loop-at_least.v - 1) 0 < 2 ^ 32)
+within_2 : (c : In-loop-at_least) → (c.loop-at_least.at_least < 2 ^ 32) × (get_or c.args.counts.now (c.loop-at_least.v - 1) 0 < 2 ^ 32)
 within_2 c =
     let s = c.requires.2 in
     let small = c.requires.0 in
@@ -40,7 +40,7 @@ pub bounds-counts-255 : goal.bounds-counts-255
 bounds-counts-255 c = c.requires.1
 
 pub overflow_cast-at_least : goal.overflow_cast-at_least
-overflow_cast-at_least c = omega (arith, within c)
+overflow_cast-at_least c = omega (arith, within (goal.at.overflow_cast-at_least c).Start)
 
 pub loop-at_least-init : goal.loop-at_least-init
 loop-at_least-init c = (omega arith, λ xs e t. (brightest xs c.args.counts.now t, inl refl))
@@ -48,14 +48,11 @@ loop-at_least-init c = (omega arith, λ xs e t. (brightest xs c.args.counts.now 
 pub overflow_sub-v : goal.overflow_sub-v
 overflow_sub-v c = positive c
 
-pub bounds-counts-v : goal.bounds-counts-v
-bounds-counts-v c = omega (arith, c.requires.1)
-
-pub overflow_cast-at_least-in-loop-at_least-2 : goal.overflow_cast-at_least-in-loop-at_least-2
-overflow_cast-at_least-in-loop-at_least-2 c = omega (arith, within_2 c)
+pub bounds-counts-from : goal.bounds-counts-from
+bounds-counts-from c = omega (arith, c.requires.1, c.from.ensures)
 
 pub overflow_add-at_least : goal.overflow_add-at_least
-overflow_add-at_least c = omega (arith, within_2 c)
+overflow_add-at_least c = omega (arith, c.from.ensures, within_2 (goal.at.overflow_add-at_least c).In-loop-at_least)
 
 pub loop-at_least-smaller : goal.loop-at_least-smaller
 loop-at_least-smaller c = omega (arith, positive (goal.at.loop-at_least-smaller c).In-loop-at_least)
@@ -65,6 +62,7 @@ loop-at_least-preserved c =
     let v = c.loop-at_least.v in
     let counts = c.args.counts.now in
     let p = positive (goal.at.loop-at_least-preserved c).In-loop-at_least in
+    rw c.from.ensures
     (omega arith, λ xs e t. next counts _ _ v _ p c.loop-at_least.invariant.0 c.loop-at_least-test.true c.loop-at_least.invariant.1 xs e t)
 
 pub returns : goal.returns

@@ -1,5 +1,5 @@
 -- `touch::join_row` meets its contract: each turn tries one pair more, and where it stops early nothing behind can touch.
-use mathlib.Core.Path.{◌≡◌, refl, ap, ◌∙◌}
+use mathlib.Core.Path.{◌≡◌, ap, ◌∙◌}
 use mathlib.Core.Bool.{Bool}
 use Prim.Native.Nat.{ℕ, ◌^◌, ◌<◌}
 use native.Mathlib.Omega.{arith}
@@ -36,11 +36,8 @@ pub is_horizontal-direction-requires : goal.is_horizontal-direction-requires
 is_horizontal-direction-requires c =
     read (c.requires.1 (get_or c.args.order.now c.args.k 0) (c.requires.2.sorted.known c.args.k c.requires.0)) c.rect_at-a.ensures
 
-pub overflow_add-l : goal.overflow_add-l
-overflow_add-l c = omega (arith, c.requires.0)
-
 pub loop-l-init : goal.loop-l-init
-loop-l-init c = record { later = omega arith; up_to = omega (arith, c.requires.0); long = refl; swept = c.requires.3 }
+loop-l-init c = c.requires.3
 
 pub offset_bounds-order-l : goal.offset_bounds-order-l
 offset_bounds-order-l c = scaled_Fits c.loop-l.l (length c.args.order.now) 4 (omega (arith, c.loop-l-test.true, c.requires.2.sorted.order_room)) c.well_formed.1.1.1.0.1
@@ -59,46 +56,27 @@ offset_bounds-keys-j c =
 pub bounds-keys-j : goal.bounds-keys-j
 bounds-keys-j c = omega (arith, c.requires.2.sorted.known c.loop-l.l c.loop-l-test.true, c.requires.2.sorted.keys_room)
 
-pub shape_of-parents-then-last-keys : goal.shape_of-parents-then-last-keys
-shape_of-parents-then-last-keys c = c.loop-l.invariant.long
-
 pub returns-then-last-keys : goal.returns-then-last-keys
 returns-then-last-keys c =
     let a = c.args in
     let pre = c.requires in
     row_stops a.pieces.now a.across a.gap pre.1 pre.2 pre.0 (head c.rect_at-a.ensures c.is_horizontal-direction.ensures c.centre2-centre.ensures.0 c.last_key-last.ensures c.ranges.gap.fits)
-    c.loop-l.invariant.swept c.loop-l-test.true c.if-last-keys.true
+    c.loop-l.invariant c.loop-l-test.true c.if-last-keys.true
 
 pub join_near-requires : goal.join_near-requires
 join_near-requires c =
-    (c.loop-l.invariant.swept.parents, c.requires.2.sorted.known c.args.k c.requires.0, c.requires.2.sorted.known c.loop-l.l c.loop-l-test.true, c.centre2-centre.ensures.1, omega (arith, c.ranges.across))
-
-pub overflow_add-l-in-loop-l : goal.overflow_add-l-in-loop-l
-overflow_add-l-in-loop-l c = omega (arith, c.loop-l-test.true, c.well_formed)
-
-pub loop-l-smaller : goal.loop-l-smaller
-loop-l-smaller c = omega (arith, c.loop-l-test.true)
+    (c.loop-l.invariant.parents, c.requires.2.sorted.known c.args.k c.requires.0, c.requires.2.sorted.known c.loop-l.l c.loop-l-test.true, c.centre2-centre.ensures.1, omega (arith, c.ranges.across))
 
 pub loop-l-preserved : goal.loop-l-preserved
 loop-l-preserved c =
     let a = c.args in
     let pre = c.requires in
-    let W = c.loop-l.invariant in
-    record {
-      later = omega (arith, W.later);
-      up_to = omega (arith, c.loop-l-test.true);
-      long = c.join_near.auto.parents ∙ W.long;
-      swept =
-          pair_tried a.pieces.now a.across a.gap pre.1 pre.2 pre.0
-          (head c.rect_at-a.ensures c.is_horizontal-direction.ensures c.centre2-centre.ensures.0 c.last_key-last.ensures c.ranges.gap.fits) W.swept W.later c.loop-l-test.true c.if-last-keys.false c.join_near.ensures;
-    }
-
-pub shape_of-parents : goal.shape_of-parents
-shape_of-parents c = c.loop-l.invariant.long
+    pair_tried a.pieces.now a.across a.gap pre.1 pre.2 pre.0
+    (head c.rect_at-a.ensures c.is_horizontal-direction.ensures c.centre2-centre.ensures.0 c.last_key-last.ensures c.ranges.gap.fits) c.loop-l.invariant (omega arith) c.loop-l-test.true c.if-last-keys.false (rw c.from-reach.ensures at c.join_near.ensures)
 
 pub returns : goal.returns
 returns c =
     let a = c.args in
     let pre = c.requires in
     row_ends a.pieces.now a.across a.gap pre.1 pre.2 pre.0 (head c.rect_at-a.ensures c.is_horizontal-direction.ensures c.centre2-centre.ensures.0 c.last_key-last.ensures c.ranges.gap.fits)
-    c.loop-l.invariant.swept c.loop-l-test.false
+    c.loop-l.invariant c.loop-l-test.false

@@ -32,20 +32,11 @@ pub offset_bounds-keys-i : goal.offset_bounds-keys-i
 offset_bounds-keys-i c = scaled_Fits c.loop-i.i (length c.args.keys.now) 8 (omega (arith, c.loop-i-test.true, c.requires.1)) c.well_formed.1.0.1
 
 pub bounds-keys-i : goal.bounds-keys-i
-bounds-keys-i c = omega (arith, c.loop-i-test.true, c.requires.1, c.loop-i.invariant.long)
-
-pub overflow_add-i : goal.overflow_add-i
-overflow_add-i c = omega (arith, c.loop-i-test.true, c.well_formed)
-
-pub loop-i-smaller : goal.loop-i-smaller
-loop-i-smaller c = omega (arith, c.loop-i-test.true)
+bounds-keys-i c = omega (arith, c.requires.1)
 
 pub loop-i-preserved : goal.loop-i-preserved
 loop-i-preserved c =
     write_turn (piece_key c.args.pieces.now) _ c.args.keys.now c.loop-i.invariant c.loop-i-test.true c.requires.1 (written c.args.pieces.now c.loop-i.i c.rect_at.ensures c.key_of.ensures)
-
-pub shape_of-keys : goal.shape_of-keys
-shape_of-keys c = c.loop-i.invariant.long
 
 pub returns : goal.returns
 returns c = λ i h. c.loop-i.invariant.done i (omega (arith, c.loop-i-test.false))

@@ -1,6 +1,6 @@
 -- `touch::write_keys` meets its contract: one key more a turn.
 use mathlib.Core.List.{List}
-use Prim.Native.Nat.{ℕ, ◌-◌}
+use Prim.Native.Nat.{ℕ}
 use Rattle.rects.specs.Rects.{rect_at}
 use Rattle.sorted.proofs.Writing.{Writing}
 use Rattle.pieces.specs.Steps.{KeyOf}
@@ -11,6 +11,3 @@ piece_key pieces i v = KeyOf (rect_at pieces i) v
 
 abbrev pub invariant-loop-i : goal.invariant-loop-i
 invariant-loop-i l = Writing (piece_key l.pieces) l.n l.initial.keys l.keys l.i
-
-abbrev pub decreases-loop-i : goal.decreases-loop-i
-decreases-loop-i l = l.n - l.i

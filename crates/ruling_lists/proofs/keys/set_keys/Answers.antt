@@ -1,10 +1,10 @@
 -- `keys::set_keys` meets its contract: one key more a turn.
 use mathlib.Core.Path.{◌≡◌, refl, sym, ap, ◌∙◌}
 use mathlib.Core.List.{List, map}
-use Prim.Native.Nat.{ℕ, ◌+◌, ◌≤◌, ◌<◌, zero-le}
+use Prim.Native.Nat.{ℕ, ◌<◌}
 use native.Mathlib.Omega.{arith}
 use borrow.Author.Rules.{scaled_Fits}
-use lib.ListN.{length, set, length-set}
+use lib.ListN.{length}
 use Rattle.lists.specs.Lists.{In, below, written}
 use Rattle.rects.specs.declared.Rect.{Rect}
 use Rattle.rects.specs.Rects.{count}
@@ -17,17 +17,8 @@ use Rattle.ruling_lists.specs.Steps.{Parts}
 use Rattle.ruling_lists.proofs.Runs.{value_written}
 use Rattle.lists.proofs.Keep.{map_map}
 use Rattle.ruling_lists.proofs.Rectangles.{places_known, set_inside}
-use Rattle.ruling_lists.proofs.keys.set_keys.Invariants.{Keys, key}
+use Rattle.ruling_lists.proofs.keys.set_keys.Invariants.{key}
 use Rattle.ruling_lists.proofs.keys.set_keys.Goals as goal
-
-turn : {pieces ms es : List ℕ} {n : ℕ} {ks₀ ks : List ℕ} {k : ℕ} {set' : List ℕ} {r : Rect} {v : ℕ} → Keys pieces ms es n ks₀ ks k → k < n → n ≤ length ks₀
-    → set' ≡ members_of ms es n k → r ≡ around pieces set' → v ≡ ruling_key r → Keys pieces ms es n ks₀ (set ks k v) (k + 1)
-turn {pieces} {ms} {es} {n} {ks₀} {ks} {k} {v = v} W l room p q e =
-    record {
-      up_to = omega arith;
-      long = length-set ks k v ∙ W.long;
-      done = value_written (key pieces ms es n) ks₀ W.done (omega arith) (e ∙ ap ruling_key (q ∙ ap (around pieces) p));
-    }
 
 -- a part, as it was read
 some : (pieces ms es set' : List ℕ) {n k : ℕ} → Parts pieces ms es n → k < n → set' ≡ members_of ms es n k → (0 < length set') × ((i : ℕ) → In set' i → i < count pieces)
@@ -40,7 +31,7 @@ inside : (pieces ms es set' : List ℕ) {n k : ℕ} {r : Rect} → AllInside 819
 inside pieces ms es set' A P l e q = let s = some pieces ms es set' P l e in rw q (set_inside pieces set' A s.0 s.1)
 
 pub loop-k-init : goal.loop-k-init
-loop-k-init c = record { up_to = zero-le; long = refl; done = refl }
+loop-k-init c = refl
 
 pub bounding-requires : goal.bounding-requires
 bounding-requires c =
@@ -55,24 +46,18 @@ offset_bounds-keys-k c =
     scaled_Fits c.loop-k.k (length c.args.keys.now) 8 (omega (arith, c.loop-k-test.true, c.requires.2)) c.well_formed.1.1.1.1.0.1
 
 pub bounds-keys-k : goal.bounds-keys-k
-bounds-keys-k c = omega (arith, c.loop-k-test.true, c.requires.2, c.loop-k.invariant.long)
-
-pub overflow_add-k : goal.overflow_add-k
-overflow_add-k c = omega (arith, c.loop-k-test.true, c.ranges)
-
-pub loop-k-smaller : goal.loop-k-smaller
-loop-k-smaller c = omega (arith, c.loop-k-test.true)
+bounds-keys-k c = omega (arith, c.loop-k-test.true, c.requires.2)
 
 pub loop-k-preserved : goal.loop-k-preserved
-loop-k-preserved c = turn c.loop-k.invariant c.loop-k-test.true c.requires.2 c.members_of-set.ensures c.bounding.ensures c.key_of.ensures
-
-pub shape_of-keys : goal.shape_of-keys
-shape_of-keys c = c.loop-k.invariant.long
+loop-k-preserved c =
+    let a = c.args in
+    value_written (key a.pieces.now a.members.now a.ends.now a.count) a.keys.now c.loop-k.invariant (omega (arith, c.requires.2))
+    (c.key_of.ensures ∙ ap ruling_key (c.bounding.ensures ∙ ap (around a.pieces.now) c.members_of-set.ensures))
 
 pub returns : goal.returns
 returns c =
     let a = c.args in
-    let end : c.loop-k.k ≡ a.count = omega (arith, c.loop-k.invariant.up_to, c.loop-k-test.false) in
-    c.loop-k.invariant.done ∙ ap (λ (j : ℕ). written (map (key a.pieces.now a.members.now a.ends.now a.count) (below j)) a.keys.now) end
+    let end : c.loop-k.k ≡ a.count = omega arith in
+    c.loop-k.invariant ∙ ap (λ (j : ℕ). written (map (key a.pieces.now a.members.now a.ends.now a.count) (below j)) a.keys.now) end
     ∙ ap (λ (t : List ℕ). written t a.keys.now)
     (sym (map_map (λ s. ruling_key (around a.pieces.now s)) (members_of a.members.now a.ends.now a.count) (below a.count)))

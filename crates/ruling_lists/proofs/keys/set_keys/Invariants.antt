@@ -1,8 +1,7 @@
 -- `keys::set_keys` meets its contract: one key more a turn.
 use mathlib.Core.Path.{◌≡◌}
 use mathlib.Core.List.{List, map}
-use Prim.Native.Nat.{ℕ, ◌-◌, ◌≤◌}
-use lib.ListN.{length}
+use Prim.Native.Nat.{ℕ}
 use Rattle.lists.specs.Lists.{below, written}
 use Rattle.rects.specs.Around.{around}
 use Rattle.sets.specs.Listing.{members_of}
@@ -13,13 +12,5 @@ use Rattle.ruling_lists.proofs.keys.set_keys.Given as goal
 abbrev pub key : List ℕ → List ℕ → List ℕ → ℕ → ℕ → ℕ
 key pieces ms es n k = ruling_key (around pieces (members_of ms es n k))
 
-pub record Keys (pieces ms es : List ℕ) (n : ℕ) (ks₀ ks : List ℕ) (k : ℕ) : Type 0 where
-  pub up_to : k ≤ n
-  pub long : length ks ≡ length ks₀
-  pub done : ks ≡ written (map (key pieces ms es n) (below k)) ks₀
-
 abbrev pub invariant-loop-k : goal.invariant-loop-k
-invariant-loop-k l = Keys l.pieces l.members l.ends l.count l.initial.keys l.keys l.k
-
-abbrev pub decreases-loop-k : goal.decreases-loop-k
-decreases-loop-k l = l.count - l.k
+invariant-loop-k l = l.keys ≡ written (map (key l.pieces l.members l.ends l.count) (below l.k)) l.initial.keys

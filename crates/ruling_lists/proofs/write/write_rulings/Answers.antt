@@ -26,43 +26,28 @@ ruling_of-r-requires c =
     (c.requires.0, s.0, s.1)
 
 pub put_rect-requires : goal.put_rect-requires
-put_rect-requires c = omega (arith, c.loop-k-test.true, c.requires.2.rects, c.loop-k.invariant.rects_long)
+put_rect-requires c = omega (arith, c.loop-k-test.true, c.requires.2.rects)
 
 pub offset_bounds-directions-k : goal.offset_bounds-directions-k
 offset_bounds-directions-k c =
     scaled_Fits c.loop-k.k (length c.args.directions.now) 4 (omega (arith, c.loop-k-test.true, c.requires.2.directions)) c.well_formed.1.1.1.1.1.1.1.1.0.1
 
 pub bounds-directions-k : goal.bounds-directions-k
-bounds-directions-k c = omega (arith, c.loop-k-test.true, c.requires.2.directions, c.loop-k.invariant.directions_long)
+bounds-directions-k c = omega (arith, c.loop-k-test.true, c.requires.2.directions)
 
 pub offset_bounds-contrasts-k : goal.offset_bounds-contrasts-k
 offset_bounds-contrasts-k c =
     scaled_Fits c.loop-k.k (length c.args.contrasts.now) 8 (omega (arith, c.loop-k-test.true, c.requires.2.contrasts)) c.well_formed.1.1.1.1.1.1.1.1.1.0.1
 
 pub bounds-contrasts-k : goal.bounds-contrasts-k
-bounds-contrasts-k c = omega (arith, c.loop-k-test.true, c.requires.2.contrasts, c.loop-k.invariant.contrasts_long)
-
-pub overflow_add-k : goal.overflow_add-k
-overflow_add-k c = omega (arith, c.loop-k-test.true, c.ranges)
-
-pub loop-k-smaller : goal.loop-k-smaller
-loop-k-smaller c = omega (arith, c.loop-k-test.true)
+bounds-contrasts-k c = omega (arith, c.loop-k-test.true, c.requires.2.contrasts)
 
 pub loop-k-preserved : goal.loop-k-preserved
 loop-k-preserved c =
     let a = c.args in
     turn a.raster.now a.w a.h a.pieces.now a.members.now a.ends.now a.count a.rects.now a.directions.now a.contrasts.now c.requires.2 c.loop-k.invariant c.loop-k-test.true c.members_of-set.ensures c.ruling_of-r.ensures c.put_rect.ensures c.direction.ensures
 
-pub shape_of-rects : goal.shape_of-rects
-shape_of-rects c = c.loop-k.invariant.rects_long
-
-pub shape_of-directions : goal.shape_of-directions
-shape_of-directions c = c.loop-k.invariant.directions_long
-
-pub shape_of-contrasts : goal.shape_of-contrasts
-shape_of-contrasts c = c.loop-k.invariant.contrasts_long
-
 pub returns : goal.returns
 returns c =
     let a = c.args in
-    done a.raster.now a.w a.h a.pieces.now a.members.now a.ends.now a.count c.loop-k.invariant c.loop-k-test.false
+    done a.raster.now a.w a.h a.pieces.now a.members.now a.ends.now a.count c.loop-k.invariant (omega arith)

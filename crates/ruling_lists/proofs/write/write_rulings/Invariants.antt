@@ -1,13 +1,13 @@
 -- `write::write_rulings` meets its contract: one ruling more a turn.
 use mathlib.Core.Path.{◌≡◌, refl, sym, ap, subst, ◌∙◌}
 use mathlib.Core.List.{List, [], map}
-use Prim.Native.Nat.{ℕ, ◌+◌, ◌-◌, ◌*◌, ◌≤◌, ◌<◌, zero-le}
+use Prim.Native.Nat.{ℕ, ◌+◌, ◌*◌, ◌<◌}
 use native.Mathlib.Nat.{not-suc-le-zero}
 use native.Mathlib.Omega.{arith}
 use borrow.Author.Count.{below_more}
 use lib.Ieee.{Float}
-use lib.ListN.{length, set, length-set}
-use lib.Seq.{sets, length-sets}
+use lib.ListN.{set}
+use lib.Seq.{sets}
 use Rattle.lists.specs.Lists.{below, concat, written}
 use Rattle.lists.proofs.Keep.{map_map, length_values, get_d_values}
 use Rattle.rects.specs.Rects.{numbers_of}
@@ -33,17 +33,13 @@ module _ (raster : List ℕ) (w h : ℕ) (pieces ms es : List ℕ) (n : ℕ) whe
   contrast k = (ruling_of raster w h pieces (part k)).contrast
 
   pub record Describing (rs₀ ds₀ : List ℕ) (cs₀ : List Float) (rs ds : List ℕ) (cs : List Float) (k : ℕ) : Type 0 where
-    pub up_to : k ≤ n
-    pub rects_long : length rs ≡ length rs₀
-    pub directions_long : length ds ≡ length ds₀
-    pub contrasts_long : length cs ≡ length cs₀
     pub rects : rs ≡ written (concat (map numbers (below k))) rs₀
     pub directions : ds ≡ written (map direction (below k)) ds₀
     pub contrasts : cs ≡ written (map contrast (below k)) cs₀
     pub near : (j : ℕ) → j < k → NearOwn raster w h pieces (part j)
 
   pub begun : (rs ds : List ℕ) (cs : List Float) → Describing rs ds cs rs ds cs 0
-  begun rs ds cs = record { up_to = zero-le; rects_long = refl; directions_long = refl; contrasts_long = refl; rects = refl; directions = refl; contrasts = refl; near = λ j l. absurd (not-suc-le-zero l) }
+  begun rs ds cs = record { rects = refl; directions = refl; contrasts = refl; near = λ j l. absurd (not-suc-le-zero l) }
 
   module _ (rs₀ ds₀ : List ℕ) (cs₀ : List Float) (R : RoomForRulings n rs₀ ds₀ cs₀) where
     pub turn : {rs ds rs' : List ℕ} {cs : List Float} {k : ℕ} {s : List ℕ} {r : Ruling} {d : ℕ} → Describing rs₀ ds₀ cs₀ rs ds cs k → k < n
@@ -52,19 +48,14 @@ module _ (raster : List ℕ) (w h : ℕ) (pieces ms es : List ℕ) (n : ℕ) whe
     turn {rs} {ds} {rs'} {cs} {k} {s} {r} {d} W l p q e f =
         let g : r ≡ ruling_of raster w h pieces (part k) = q.value ∙ ap (ruling_of raster w h pieces) p in
         record {
-          up_to = omega arith;
-          rects_long = ap length e ∙ length-sets rs (4 * k) (numbers_of r.rect) ∙ W.rects_long;
-          directions_long = length-set ds k d ∙ W.directions_long;
-          contrasts_long = length-set cs k r.contrast ∙ W.contrasts_long;
           rects = e ∙ run_written numbers rs₀ W.rects (sym (total_four numbers (λ j. refl) k)) (ap (λ (z : Ruling). numbers_of z.rect) g) (omega (arith, R.rects));
           directions = value_written direction ds₀ W.directions (omega (arith, R.directions)) (f ∙ ap (λ (z : Ruling). direction_number z.horizontal) g);
           contrasts = value_written contrast cs₀ W.contrasts (omega (arith, R.contrasts)) (ap (λ (z : Ruling). z.contrast) g);
           near = below_more (λ j. NearOwn raster w h pieces (part j)) k W.near (subst (NearOwn raster w h pieces) p q.near);
         }
 
-  pub done : {rs₀ ds₀ rs ds : List ℕ} {cs₀ cs : List Float} {k : ℕ} → Describing rs₀ ds₀ cs₀ rs ds cs k → n ≤ k → Described raster w h pieces (parts_of ms es n) rs₀ ds₀ cs₀ rs ds cs
-  done {rs₀} {ds₀} {cs₀ = cs₀} {k = k} W l =
-      let end : k ≡ n = omega (arith, W.up_to) in
+  pub done : {rs₀ ds₀ rs ds : List ℕ} {cs₀ cs : List Float} {k : ℕ} → Describing rs₀ ds₀ cs₀ rs ds cs k → k ≡ n → Described raster w h pieces (parts_of ms es n) rs₀ ds₀ cs₀ rs ds cs
+  done {rs₀} {ds₀} {cs₀ = cs₀} {k = k} W end =
       record {
         rects = W.rects ∙ ap (λ (j : ℕ). written (concat (map numbers (below j))) rs₀) end ∙ ap (λ (t : List (List ℕ)). written (concat t) rs₀) (sym (map_map (λ s. numbers_of (around pieces s)) part (below n)));
         directions = W.directions ∙ ap (λ (j : ℕ). written (map direction (below j)) ds₀) end ∙ ap (λ (t : List ℕ). written t ds₀) (sym (map_map (λ s. direction_number (direction_of pieces s)) part (below n)));
@@ -77,6 +68,3 @@ module _ (raster : List ℕ) (w h : ℕ) (pieces ms es : List ℕ) (n : ℕ) whe
 abbrev pub invariant-loop-k : goal.invariant-loop-k
 invariant-loop-k l =
     Describing l.raster l.w l.h l.pieces l.members l.ends l.count l.initial.rects l.initial.directions l.initial.contrasts l.rects l.directions l.contrasts l.k
-
-abbrev pub decreases-loop-k : goal.decreases-loop-k
-decreases-loop-k l = l.count - l.k

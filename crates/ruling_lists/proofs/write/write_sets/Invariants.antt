@@ -1,8 +1,8 @@
 -- `write::write_sets` meets its contract: one set more a turn.
 use mathlib.Core.Path.{◌≡◌}
 use mathlib.Core.List.{List, map}
-use Prim.Native.Nat.{ℕ, ◌-◌, ◌≤◌}
-use lib.ListN.{length, get_or}
+use Prim.Native.Nat.{ℕ}
+use lib.ListN.{get_or}
 use Rattle.lists.specs.Lists.{below, concat, written}
 use Rattle.sets.specs.Listing.{members_of, ends_from}
 use Rattle.ruling_lists.proofs.Runs.{total}
@@ -13,15 +13,9 @@ abbrev pub nth : List ℕ → List ℕ → ℕ → List ℕ → ℕ → List ℕ
 nth ls le n order k = members_of ls le n (get_or order k 0)
 
 pub record Strings (ls le : List ℕ) (n : ℕ) (order ms₀ es₀ ms es : List ℕ) (at k : ℕ) : Type 0 where
-  pub up_to : k ≤ n
-  pub members_long : length ms ≡ length ms₀
-  pub ends_long : length es ≡ length es₀
   pub place : at ≡ total (nth ls le n order) k
   pub members : ms ≡ written (concat (map (nth ls le n order) (below k))) ms₀
   pub ends : es ≡ written (ends_from 0 (map (nth ls le n order) (below k))) es₀
 
 abbrev pub invariant-loop-place : goal.invariant-loop-place
 invariant-loop-place l = Strings l.listed l.listed_ends l.count l.order l.initial.members l.initial.ends l.members l.ends l.at l.place
-
-abbrev pub decreases-loop-place : goal.decreases-loop-place
-decreases-loop-place l = l.count - l.place

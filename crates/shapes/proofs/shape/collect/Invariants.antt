@@ -1,8 +1,9 @@
 -- `shape::collect` meets its contract: after k turns the positions of the first k members that have the direction stand in front.
 use mathlib.Core.Path.{◌≡◌, ap, ◌∙◌}
-use mathlib.Core.Bool.{Bool, cond}
+use mathlib.Core.Bool.{Bool}
 use mathlib.Core.List.{List}
-use Prim.Native.Nat.{ℕ, suc, ◌+◌, ◌-◌, ◌/◌, ◌≤◌, ◌<◌}
+use Prim.Native.Nat.{ℕ, ◌+◌, ◌/◌, ◌≤◌, ◌<◌}
+use Rattle.std.specs.Int.{from_bool}
 use lib.ListN.{length, get_or, set}
 use Rattle.meeting.specs.declared.segment.Segment.{Segment}
 use Rattle.meeting.specs.Segments.{ruling_at}
@@ -11,23 +12,20 @@ use Rattle.shapes.specs.Steps.{Collected}
 use Rattle.meeting.proofs.Collecting.{Gathering, gather_turn, gather_end}
 use Rattle.shapes.proofs.shape.collect.Given as goal
 
-module _ (h : Bool) (s : ℕ → Segment) (members keys : List ℕ) where
+module _ (h : Bool) (s : ℕ → Segment) (members : List ℕ) where
   abbrev pub Walk : List ℕ → ℕ → ℕ → Type 0
-  Walk = Gathering (λ i. in_direction h (s i)) (λ i. (s i).centre2 / 2) members keys
+  Walk = Gathering (λ i. in_direction h (s i)) (λ i. (s i).centre2 / 2) members
 
-  pub turn : {l : List ℕ} {n k n' : ℕ} {b : Bool} {a : Segment} → Walk l n k → k < length members → length members ≤ length keys → a ≡ s (get_or members k 0)
-      → b ≡ in_direction h a → n' ≡ cond b (suc n) n → Walk (set l n (a.centre2 / 2)) n' (k + 1)
-  turn {b = b} W l room e f m =
-      gather_turn (λ i. in_direction h (s i)) (λ i. (s i).centre2 / 2) members keys b W l room (ap (λ (x : Segment). x.centre2 / 2) e)
-      (f ∙ ap (in_direction h) e) m
+  pub turn : {l : List ℕ} {n k : ℕ} {b : Bool} {a : Segment} → Walk l n k → k < length members → length members ≤ length l → a ≡ s (get_or members k 0)
+      → b ≡ in_direction h a → Walk (set l n (a.centre2 / 2)) (n + from_bool b) (k + 1)
+  turn {b = b} W l room e f =
+      gather_turn (λ i. in_direction h (s i)) (λ i. (s i).centre2 / 2) members b W l room (ap (λ (x : Segment). x.centre2 / 2) e)
+      (f ∙ ap (in_direction h) e)
 
-  pub done : {l : List ℕ} {n k : ℕ} → Walk l n k → length members ≤ k → Collected h s members l n
+  pub done : {l : List ℕ} {n k : ℕ} → Walk l n k → k ≡ length members → Collected h s members l n
   done W l =
-      let r = gather_end (λ i. in_direction h (s i)) (λ i. (s i).centre2 / 2) members keys W l in
+      let r = gather_end (λ i. in_direction h (s i)) (λ i. (s i).centre2 / 2) members W l in
       record { count = r.0; keys = r.1; short = r.2 }
 
-abbrev pub invariant-loop-k : goal.invariant-loop-k
-invariant-loop-k l = Walk l.horizontal (ruling_at l.rects l.directions l.chosen) l.set l.initial.keys l.keys l.n l.k
-
-abbrev pub decreases-loop-k : goal.decreases-loop-k
-decreases-loop-k l = length l.set - l.k
+abbrev pub invariant-loop-i : goal.invariant-loop-i
+invariant-loop-i l = Walk l.horizontal (ruling_at l.rects l.directions l.chosen) l.set l.keys l.n l.i-index

@@ -1,10 +1,11 @@
 -- `facts::around_set` meets its contract. The invariant: r, with the rectangles of the members that are left, makes the whole.
 use mathlib.Core.Path.{◌≡◌, sym, ap, ◌∙◌}
 use mathlib.Core.List.{List}
-use Prim.Native.Nat.{ℕ, ◌+◌, ◌≤◌, ◌<◌}
+use Prim.Native.Nat.{ℕ, ◌+◌, ◌-◌, ◌≤◌, ◌<◌}
 use native.Mathlib.Omega.{arith}
 use borrow.Author.Rules.{scaled_Fits}
-use lib.ListN.{length, get_or, drop, length-map}
+use lib.ListN.{length, get_or, take, drop, length-map}
+use Rattle.std.proofs.lemmas.List.{get_or-take, get_or-drop, length-take, length-drop}
 use Rattle.lists.proofs.Keep.{get_d_map}
 use Rattle.rects.specs.declared.Rect.{Rect}
 use Rattle.rects.specs.Rects.{rect_at}
@@ -12,6 +13,7 @@ use Rattle.rects.specs.Around.{union_of, unioned, around}
 use Rattle.rects.proofs.Around.{around_first, unioned_step, unioned_all}
 use Rattle.table_lists.specs.Answers.{places_of}
 use Rattle.meeting.proofs.Rulings.{member_within}
+use Rattle.table_lists.proofs.facts.around_set.Goals.{In-loop-i}
 use Rattle.table_lists.proofs.facts.around_set.Goals as goal
 
 module _ (rects chosen set : List ℕ) where
@@ -23,6 +25,18 @@ module _ (rects chosen set : List ℕ) where
 
   size : length places ≡ length set
   size = length-map set (λ i. get_or chosen i 0)
+
+  -- the members behind the first, as a slice
+  abbrev rest : List ℕ
+  rest = take (length set - 1) (drop 1 set)
+
+  rest_long : length rest ≡ length set - 1
+  rest_long = omega (arith, length-take (length set - 1) (drop 1 set), length-drop 1 set)
+
+  rest_at : (i : ℕ) → i < length rest → get_or rest i 0 ≡ get_or set (i + 1) 0
+  rest_at i l =
+      let e : 1 + i ≡ i + 1 = omega arith in
+      get_or-take (length set - 1) (drop 1 set) i 0 (rw rest_long at l) ∙ get_or-drop 1 set i 0 ∙ ap (λ (k : ℕ). get_or set k 0) e
 
   begun : {r : Rect} → 0 < length set → r ≡ rect_at rects (get_or chosen (get_or set 0 0) 0) → unioned rects r (drop 1 places) ≡ around rects places
   begun h e =
@@ -58,46 +72,33 @@ pub rect_at-r-requires : goal.rect_at-r-requires
 rect_at-r-requires c =
     c.requires.0.rect (get_or c.args.set.now 0 0) (member_within c.args.set.now c.requires.1 0 c.requires.2)
 
-pub loop-k-init : goal.loop-k-init
-loop-k-init c =
-    (c.requires.2, begun c.args.rects.now c.args.chosen.now c.args.set.now c.requires.2 c.rect_at-r.ensures)
+-- the member that is read, and that it is one of the chosen
+member : (c : In-loop-i) → get_or (rest c.args.rects.now c.args.chosen.now c.args.set.now) c.loop-i.i-index 0 ≡ get_or c.args.set.now (c.loop-i.i-index + 1) 0
+member c = rest_at c.args.rects.now c.args.chosen.now c.args.set.now c.loop-i.i-index c.loop-i-test.true
 
-pub offset_bounds-set-k : goal.offset_bounds-set-k
-offset_bounds-set-k c =
-    scaled_Fits c.loop-k.k (length c.args.set.now) 4 c.loop-k-test.true c.well_formed.1.1.1.0.1
+inside : (c : In-loop-i) → c.loop-i.i-index + 1 < length c.args.set.now
+inside c = omega (arith, rest_long c.args.rects.now c.args.chosen.now c.args.set.now)
 
-pub bounds-set-k : goal.bounds-set-k
-bounds-set-k c = c.loop-k-test.true
+known : (c : In-loop-i) → get_or (rest c.args.rects.now c.args.chosen.now c.args.set.now) c.loop-i.i-index 0 < length c.args.chosen.now
+known c = rw (member c) (member_within c.args.set.now c.requires.1 (c.loop-i.i-index + 1) (inside c))
 
-pub overflow_cast-place : goal.overflow_cast-place
-overflow_cast-place c = omega (arith, c.shared_slice_known-in-loop-k-1.given c.loop-k.k)
+pub loop-i-init : goal.loop-i-init
+loop-i-init c = begun c.args.rects.now c.args.chosen.now c.args.set.now c.requires.2 c.rect_at-r.ensures
 
-pub offset_bounds-chosen-set-in-loop-k : goal.offset_bounds-chosen-set-in-loop-k
-offset_bounds-chosen-set-in-loop-k c =
-    scaled_Fits (get_or c.args.set.now c.loop-k.k 0) (length c.args.chosen.now) 4 (member_within c.args.set.now c.requires.1 c.loop-k.k c.loop-k-test.true) c.well_formed.1.1.0.1
-
-pub bounds-chosen-set-in-loop-k : goal.bounds-chosen-set-in-loop-k
-bounds-chosen-set-in-loop-k c =
-    member_within c.args.set.now c.requires.1 c.loop-k.k c.loop-k-test.true
-
-pub overflow_cast-place-in-loop-k : goal.overflow_cast-place-in-loop-k
-overflow_cast-place-in-loop-k c = omega (arith, c.shared_slice_known-in-loop-k-2-1.given (get_or c.args.set.now c.loop-k.k 0))
+pub bounds-chosen-i : goal.bounds-chosen-i
+bounds-chosen-i c = known (goal.at.bounds-chosen-i c).In-loop-i
 
 pub rect_at-requires : goal.rect_at-requires
-rect_at-requires c =
-    c.requires.0.rect (get_or c.args.set.now c.loop-k.k 0) (member_within c.args.set.now c.requires.1 c.loop-k.k c.loop-k-test.true)
+rect_at-requires c = c.requires.0.rect _ (known (goal.at.rect_at-requires c).In-loop-i)
 
-pub overflow_add-k : goal.overflow_add-k
-overflow_add-k c =
-    omega (arith, c.loop-k-test.true, c.requires.1.short, c.requires.0.few)
-
-pub loop-k-smaller : goal.loop-k-smaller
-loop-k-smaller c = omega (arith, c.loop-k-test.true)
-
-pub loop-k-preserved : goal.loop-k-preserved
-loop-k-preserved c =
-    (omega (arith, c.loop-k-test.true), turn c.args.rects.now c.args.chosen.now c.args.set.now c.loop-k.r c.loop-k.invariant.1 c.loop-k-test.true c.rect_at.ensures c.union_rect-r.ensures)
+pub loop-i-preserved : goal.loop-i-preserved
+loop-i-preserved c =
+    let a = c.args in
+    let here = (goal.at.loop-i-preserved c).In-loop-i in
+    turn a.rects.now a.chosen.now a.set.now c.loop-i.r c.loop-i.invariant (inside here)
+    (c.rect_at.ensures ∙ ap (λ (m : ℕ). rect_at a.rects.now (get_or a.chosen.now m 0)) (member here)) c.union_rect-r.ensures
 
 pub returns : goal.returns
 returns c =
-    done c.args.rects.now c.args.chosen.now c.args.set.now c.loop-k.invariant.1 c.loop-k-test.false
+    let a = c.args in
+    done a.rects.now a.chosen.now a.set.now c.loop-i.invariant (omega (arith, rest_long a.rects.now a.chosen.now a.set.now))

@@ -1,15 +1,15 @@
 -- `facts::bound` meets its contract: after t turns the rectangles of the first t tables are written.
-use mathlib.Core.Path.{refl}
+use mathlib.Core.Path.{◌≡◌, refl, ◌∙◌}
 use native.Mathlib.Omega.{arith}
 use borrow.Author.Rules.{scaled_Fits}
 use lib.ListN.{length}
 use Rattle.sets.specs.Listing.{members_of}
 use Rattle.table_lists.proofs.Passes.{set_read}
-use Rattle.table_lists.proofs.facts.bound.Invariants.{done, turn}
+use Rattle.table_lists.proofs.facts.bound.Invariants.{turn}
 use Rattle.table_lists.proofs.facts.bound.Goals as goal
 
 pub loop-t-init : goal.loop-t-init
-loop-t-init c = record { up_to = omega arith; long = refl; content = refl }
+loop-t-init c = refl
 
 pub offset_bounds-numbers-t : goal.offset_bounds-numbers-t
 offset_bounds-numbers-t c =
@@ -27,21 +27,13 @@ around_set-requires c =
     (c.requires.0, r.0, r.1)
 
 pub put_rect-requires : goal.put_rect-requires
-put_rect-requires c = omega (arith, c.loop-t-test.true, c.requires.3, c.loop-t.invariant.long)
-
-pub overflow_add-t : goal.overflow_add-t
-overflow_add-t c = omega (arith, c.loop-t-test.true, c.requires.3)
-
-pub loop-t-smaller : goal.loop-t-smaller
-loop-t-smaller c = omega (arith, c.loop-t-test.true)
+put_rect-requires c = omega (arith, c.loop-t-test.true, c.requires.3)
 
 pub loop-t-preserved : goal.loop-t-preserved
 loop-t-preserved c =
-    turn c.args.rects.now c.args.chosen.now (members_of c.args.members.now c.args.ends.now c.args.count) c.args.numbers.now c.args.out.now c.loop-t.invariant c.loop-t-test.true c.requires.2.room c.requires.3 c.put_rect.auto.rects c.put_rect.ensures c.around_set.ensures c.members_of-set.ensures
-
-pub shape_of-out : goal.shape_of-out
-shape_of-out c = c.loop-t.invariant.long
+    let a = c.args in
+    c.put_rect.ensures
+    ∙ turn a.rects.now a.chosen.now (members_of a.members.now a.ends.now a.count) a.numbers.now a.out.now c.loop-t.invariant (omega (arith, c.requires.2.room)) (omega (arith, c.requires.3)) c.around_set.ensures c.members_of-set.ensures
 
 pub returns : goal.returns
-returns c =
-    done c.args.rects.now c.args.chosen.now (members_of c.args.members.now c.args.ends.now c.args.count) c.args.numbers.now c.args.out.now c.loop-t.invariant c.loop-t-test.false
+returns c = let end : c.loop-t.t ≡ c.args.tables = omega arith in record { content = rw end at c.loop-t.invariant }

