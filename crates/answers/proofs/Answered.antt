@@ -1,4 +1,4 @@
--- An enum's answer as a struct of number and values: an answer has number 0, and a refusal can't have it.
+-- A result as a struct of number and values: an answer has number 0, and a refusal can't have it.
 use mathlib.Core.Path.{◌≡◌, refl}
 use mathlib.Core.Bool.{Bool, true, false, cond}
 use mathlib.Core.List.{List, [], ◌∷◌}
@@ -13,8 +13,8 @@ use Rattle.rects.specs.declared.Rect.{Rect}
 use Rattle.layout.specs.declared.rect.PageRect.{PageRect}
 use Rattle.layout.specs.declared.page.Levelled.{Levelled}
 use Rattle.layout.specs.declared.page.PagePlace.{PagePlace}
-use Rattle.layout.specs.declared.calls.Mapped.TheVariants.{Place, Refused}
-use Rattle.layout.specs.declared.calls.MappedRect.TheVariants.{Area, RefusedArea}
+use Rattle.layout.specs.declared.calls.Refused.{Refused}
+use Rattle.std.specs.Prelude.{Ok, Err}
 use Rattle.layout.specs.ToPage.{to_page, rect_to_page}
 use Rattle.layout.specs.Call.{map_questions, one_pixel, ToPage, RectToPage}
 use Rattle.layout.proofs.Signed.{passed, passed_is}
@@ -31,18 +31,18 @@ module _ (sides : Sides) (shear shear_x : List ℤ) where
   place_mapped : (p : Levelled) (r : ToPageAnswer) → r.number ≡ first_missed (map_questions sides shear shear_x (one_pixel p)) → let q = to_page sides shear shear_x p in r.x ∷ r.y ∷ [] ≡ cond (eqb r.number 0) (q.0 ∷ q.1 ∷ []) (pos 0 ∷ pos 0 ∷ []) → PlaceMapped sides shear shear_x p r
   place_mapped p r n v = record { number = n; values = v; pixel = pixel_back sides shear shear_x p r.number (r.x ∷ r.y ∷ []) (pos 0 ∷ pos 0 ∷ []) n v }
 
-  pub place_answered : (p : Levelled) (q : PagePlace) → mag q.0 < 2 ^ 63 → mag q.1 < 2 ^ 63 → ToPage sides shear shear_x p (Place q) → PlaceMapped sides shear shear_x p (record { number = 0; x = passed q.0; y = passed q.1 })
+  pub place_answered : (p : Levelled) (q : PagePlace) → mag q.0 < 2 ^ 63 → mag q.1 < 2 ^ 63 → ToPage sides shear shear_x p (Ok q) → PlaceMapped sides shear shear_x p (record { number = 0; x = passed q.0; y = passed q.1 })
   place_answered p q f g t = place_mapped p (record { number = 0; x = passed q.0; y = passed q.1 }) t.number (rw (passed_is q.0 f, passed_is q.1 g) t.values)
 
-  pub place_refused : (p : Levelled) (n : ℕ) → ToPage sides shear shear_x p (Refused n) → PlaceMapped sides shear shear_x p (record { number = n; x = pos 0; y = pos 0 })
-  place_refused p n t =
+  pub place_refused : (p : Levelled) (e : Refused) → ToPage sides shear shear_x p (Err e) → PlaceMapped sides shear shear_x p (record { number = e.0; x = pos 0; y = pos 0 })
+  place_refused p e t =
       let q = to_page sides shear shear_x p in
-      place_mapped p (record { number = n; x = pos 0; y = pos 0 }) t.number (no_values (eqb n 0) q.0 (q.1 ∷ []) (q.0 ∷ q.1 ∷ []) (pos 0 ∷ pos 0 ∷ []) t.values)
+      place_mapped p (record { number = e.0; x = pos 0; y = pos 0 }) t.number (no_values (eqb e.0 0) q.0 (q.1 ∷ []) (q.0 ∷ q.1 ∷ []) (pos 0 ∷ pos 0 ∷ []) t.values)
 
-  pub area_answered : (r : Rect) (q : PageRect) → RectToPage sides shear shear_x r (Area q) → AreaMapped sides shear shear_x r (record { number = 0; x0 = q.x0; y0 = q.y0; x1 = q.x1; y1 = q.y1 })
+  pub area_answered : (r : Rect) (q : PageRect) → RectToPage sides shear shear_x r (Ok q) → AreaMapped sides shear shear_x r (record { number = 0; x0 = q.x0; y0 = q.y0; x1 = q.x1; y1 = q.y1 })
   area_answered r q t = record { number = t.number; values = t.values }
 
-  pub area_refused : (r : Rect) (n : ℕ) → RectToPage sides shear shear_x r (RefusedArea n) → AreaMapped sides shear shear_x r (record { number = n; x0 = 0; y0 = 0; x1 = 0; y1 = 0 })
-  area_refused r n t =
+  pub area_refused : (r : Rect) (e : Refused) → RectToPage sides shear shear_x r (Err e) → AreaMapped sides shear shear_x r (record { number = e.0; x0 = 0; y0 = 0; x1 = 0; y1 = 0 })
+  area_refused r e t =
       let q = rect_to_page sides shear shear_x r in
-      record { number = t.number; values = no_values (eqb n 0) q.x0 (q.y0 ∷ q.x1 ∷ q.y1 ∷ []) (q.x0 ∷ q.y0 ∷ q.x1 ∷ q.y1 ∷ []) (0 ∷ 0 ∷ 0 ∷ 0 ∷ []) t.values }
+      record { number = t.number; values = no_values (eqb e.0 0) q.x0 (q.y0 ∷ q.x1 ∷ q.y1 ∷ []) (q.x0 ∷ q.y0 ∷ q.x1 ∷ q.y1 ∷ []) (0 ∷ 0 ∷ 0 ∷ 0 ∷ []) t.values }

@@ -1,11 +1,10 @@
 -- A finding as C gets it: found 1 and its numbers, or all 0 where there is none.
-use Rattle.std.specs.Prelude.{ℕ}
+use Rattle.std.specs.Prelude.{ℕ, Option, Some, None}
 use Rattle.math.specs.Constants.{zero}
 use Rattle.layout.specs.declared.rect.PageRect.{PageRect}
+use Rattle.evidence.specs.declared.finding.Finding.{Finding}
 use Rattle.evidence.specs.declared.finding.Row.{Row}
 use Rattle.evidence.specs.Finding.{no_evidence, row_of}
-use Rattle.read_findings.specs.declared.FindingAt.{FindingAt}
-use Rattle.read_findings.specs.declared.FindingAt.TheVariants.{Found, Nothing}
 use Rattle.answers.specs.declared.finding_at.FindingAtAnswer.{FindingAtAnswer}
 
 -- 1 where there is a finding, and the numbers of a row.
@@ -38,6 +37,6 @@ zeros =
     record { bbox = none; kind = 0; a = 0; b = 0; c = 0; log_odds = zero; first = no_evidence; second = no_evidence; length = zero }
 
 -- The values of each case, those of a finding by its row: kind number, rectangle, facts, log odds, evidences, a fold's length.
-abbrev pub answer_of : FindingAt → FindingAtAnswer
-answer_of (Found f) = of_row 1 (row_of f)
-answer_of Nothing = of_row 0 zeros
+abbrev pub answer_of : Option Finding → FindingAtAnswer
+answer_of (Some f) = of_row 1 (row_of f)
+answer_of None = of_row 0 zeros

@@ -4,7 +4,6 @@ ghost use Rattle.read_findings.specs.Read.{columns, finding_at};
 ghost use Rattle.answers.specs.FindingAt.{of_row, zeros, answer_of};
 
 use evidence::finding::Row;
-use read_findings::FindingAt;
 
 // 1 and the finding's numbers, or all 0 where there is none.
 #[repr(C)]
@@ -120,7 +119,7 @@ pub fn finding_at(
         i,
     );
     match answer {
-        FindingAt::Found(f) => of_row(evidence::finding::row_of(f)),
-        FindingAt::Nothing => nothing(),
+        Some(f) => of_row(evidence::finding::row_of(f)),
+        None => nothing(),
     }
 }

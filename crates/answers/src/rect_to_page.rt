@@ -2,7 +2,7 @@
 // levelled picture's.
 ghost use Rattle.answers.specs.Mapped.{AreaMapped};
 
-use layout::calls::MappedRect;
+use layout::calls::Refused;
 use layout::sides::Sides;
 use rects::Rect;
 
@@ -36,14 +36,14 @@ pub fn rect_to_page(
     let r = Rect { x0, y0, x1, y1 };
     let answer = layout::calls::rect_to_page(sides, shear, shear_x, r);
     match answer {
-        MappedRect::Area(p) => RectToPageAnswer {
+        Ok(p) => RectToPageAnswer {
             number: 0,
             x0: p.x0,
             y0: p.y0,
             x1: p.x1,
             y1: p.y1,
         },
-        MappedRect::RefusedArea(number) => RectToPageAnswer {
+        Err(Refused(number)) => RectToPageAnswer {
             number,
             x0: 0,
             y0: 0,

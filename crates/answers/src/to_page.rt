@@ -2,7 +2,7 @@
 // levelled picture's.
 ghost use Rattle.answers.specs.Mapped.{PlaceMapped};
 
-use layout::calls::Mapped;
+use layout::calls::Refused;
 use layout::page::Levelled;
 use layout::sides::Sides;
 
@@ -30,11 +30,11 @@ pub fn to_page(
     let sides = Sides { pw, ph, w, h };
     let answer = layout::calls::to_page(sides, shear, shear_x, Levelled(x, y));
     match answer {
-        Mapped::Place(p) => ToPageAnswer {
+        Ok(p) => ToPageAnswer {
             number: 0,
             x: p.0,
             y: p.1,
         },
-        Mapped::Refused(number) => ToPageAnswer { number, x: 0, y: 0 },
+        Err(Refused(number)) => ToPageAnswer { number, x: 0, y: 0 },
     }
 }

@@ -1,6 +1,6 @@
 // A finding is one of four kinds, each with its own facts.
 ghost use Rattle.std.specs.Prelude.{◌≡◌};
-ghost use Rattle.evidence.specs.Finding.{fold_number, row_of, finite_evidence, finite_finding};
+ghost use Rattle.evidence.specs.Finding.{row_of, finite_evidence, finite_finding};
 
 use layout::rect::PageRect;
 
@@ -60,13 +60,6 @@ pub struct Row {
     pub first: Evidence,
     pub second: Evidence,
     pub length: f64,
-}
-
-// 0 for horizontal and 1 for vertical.
-fn direction(vertical: bool) -> u32
-    ensures { result ≡ fold_number vertical }
-{
-    if vertical { 1 } else { 0 }
 }
 
 pub fn row_of(f: Finding) -> Row
@@ -131,7 +124,7 @@ pub fn row_of(f: Finding) -> Row
         Kind::Fold { vertical, length } => Row {
             bbox,
             kind: 19,
-            a: direction(vertical),
+            a: u32::from(vertical),
             b: 0,
             c: 0,
             log_odds: f.log_odds,

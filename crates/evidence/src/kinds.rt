@@ -46,7 +46,7 @@ pub fn table_finding(
     requires { rows * columns ≤ 2 ^ 53 }
     ensures { result ≡ table_finding p f bbox rows columns rulings share }
 {
-    let cells = (rows as u64 * columns as u64) as f64;
+    let cells = (u64::from(rows) * u64::from(columns)) as f64;
     let clip = f.llr_clip;
     let first = count_evidence(cells, 0.0, p.table_cells_coef, p.table_cells_cap, clip);
     let second = score::evidence_of(share, 0.5, p.table_junction_coef * (share - 0.5), clip);

@@ -1,8 +1,8 @@
 // A finding stored at a place of its lists.
-ghost use Rattle.std.specs.Prelude.{◌≡◌, [], ◌∷◌, map, ◌+◌, ◌<◌, ◌^◌, length, get_or};
+ghost use Rattle.std.specs.Prelude.{◌≡◌, ℕ, [], ◌∷◌, map, ◌+◌, ◌<◌, ◌^◌, length, get_or};
 ghost use Rattle.evidence.specs.Finding.{row_of};
 ghost use Rattle.finding_lists.specs.Columns.{fact, score};
-ghost use Rattle.finding_lists.specs.Steps.{EachLong, EachSet, Roomy, Stored, WroteOne};
+ghost use Rattle.finding_lists.specs.Steps.{EachLong, EachSet, Roomy, Stored, WroteOne, Wrote, RanksGiven};
 
 use evidence::finding::{Finding, Row};
 use layout::rect::PageRect;
@@ -32,7 +32,8 @@ fn put_scores(row: Row, i: usize, scores: &mut [&mut [f64]; 8])
     scores[7][i] = row.length;
 }
 
-// The four numbers of a page rectangle, as a rectangle is stored.
+// The four numbers of a page rectangle, as a rectangle is stored. `From` would be no plainer: rectangles of the page and of the levelled
+// picture are two types so that neither passes for the other.
 fn numbers(r: PageRect) -> Rect
     ensures { result ≡ record { x0 = r.x0; y0 = r.y0; x1 = r.x1; y1 = r.y1 } }
 {
@@ -81,4 +82,29 @@ pub fn put_ranked(
 {
     put(f, ranks[k] as usize, rects, facts, scores);
     evidence::finding::is_finite(f)
+}
+
+// Stores n findings, each as `finding` gives it, at their ranks, which stand from place `at` on, and tells whether every evidence number
+// is finite.
+pub fn put_all<F: Fn(usize) -> Finding>(
+    finding: F,
+    n: usize,
+    ranks: &[u32],
+    at: usize,
+    rects: &mut [u32],
+    facts: &mut [&mut [u32]; 4],
+    scores: &mut [&mut [f64]; 8],
+) -> bool
+    requires given { (k : ℕ) → k < n → F.pre finding k }
+    requires ranks_given { RanksGiven ranks.now at n
+        (record { rects = rects.old; facts = map (λ x. x.now) facts.old; scores = map (λ x. x.now) scores.old }) }
+    ensures { (f : ℕ → Finding) → ((k : ℕ) (r : Finding) → k < n → F.post finding k r → r ≡ f k) → Wrote f n ranks.now at
+        (record { rects = rects.old; facts = map (λ x. x.now) facts.old; scores = map (λ x. x.now) scores.old })
+        (record { rects = rects.new; facts = map (λ x. x.now) facts.new; scores = map (λ x. x.now) scores.new }) result }
+{
+    let mut all = true;
+    for k in 0..n {
+        all = all & put_ranked(finding(k), ranks, at + k, rects, facts, scores);
+    }
+    all
 }

@@ -21,7 +21,7 @@ fn key_of(r: PageRect, kind: u32) -> u64
     requires { (r.x0 < 8192) × (r.y0 < 8192) × (16 ≤ kind) × (kind < 20) }
     ensures { result ≡ page_key r kind }
 {
-    (r.y0 as u64 * 8192 + r.x0 as u64) * 4 + (kind as u64 - 16)
+    (u64::from(r.y0) * 8192 + u64::from(r.x0)) * 4 + (u64::from(kind) - 16)
 }
 
 // The sort key of a finding of a kind that has this rectangle.

@@ -17,12 +17,10 @@ pub fn count_equal(numbers: &[u32], places: &[u32], number: u32) -> usize
     ensures { result ≡ length (keep (λ k. eqb (get_or numbers.now k 0) number) places.now) }
 {
     let mut count = 0;
-    let mut i = 0;
-    while i < places.len() {
-        if numbers[places[i] as usize] == number {
+    for place in places {
+        if numbers[*place as usize] == number {
             count += 1;
         }
-        i += 1;
     }
     count
 }
@@ -41,12 +39,10 @@ pub fn longest(rects: &[u32], directions: &[u32], places: &[u32]) -> u32
     ensures { result ≡ greatest_of (map (length_at rects.now directions.now) places.now) }
 {
     let mut longest = 0;
-    let mut i = 0;
-    while i < places.len() {
-        let place = places[i] as usize;
+    for place in places {
+        let place = *place as usize;
         let length = length_of(rects::rect_at(rects, place), directions[place] == 0);
-        longest = rects::greatest(longest, length);
-        i += 1;
+        longest = longest.max(length);
     }
     longest
 }

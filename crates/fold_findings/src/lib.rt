@@ -37,14 +37,12 @@ pub fn choose(
     ensures { Front (folds p dpi rects.now directions.now faint.now) out.old out.new result }
 {
     let mut n = 0;
-    let mut k = 0;
-    while k < faint.len() {
-        let length = inches(dpi, rects, directions, faint[k] as usize);
+    for place in faint {
+        let length = inches(dpi, rects, directions, *place as usize);
         if evidence::kinds::is_fold(p, length) {
-            out[n] = faint[k];
+            out[n] = *place;
             n += 1;
         }
-        k += 1;
     }
     n
 }
@@ -64,12 +62,15 @@ pub fn keys(
     ensures { keys.new ≡ sets keys.old at
         (map (fold_key sides shear.now shear_x.now rects.now) folds.now) }
 {
-    let mut k = 0;
-    while k < folds.len() {
-        let r = rects::rect_at(rects, folds[k] as usize);
-        keys[at + k] = page::rect_key(sides, shear, shear_x, r, 19);
-        k += 1;
-    }
+    findings::keys::put_all(
+        |k| {
+            let r = rects::rect_at(rects, folds[k] as usize);
+            page::rect_key(sides, shear, shear_x, r, 19)
+        },
+        folds.len(),
+        at,
+        keys,
+    )
 }
 
 // The finding of the fold that is the ruling at a place.
@@ -128,15 +129,18 @@ pub fn write(
         (record { rects = page.old; facts = map (λ x. x.now) facts.old; scores = map (λ x. x.now) scores.old })
         (record { rects = page.new; facts = map (λ x. x.now) facts.new; scores = map (λ x. x.now) scores.new }) result }
 {
-    let mut all = true;
-    let mut k = 0;
-    while k < folds.len() {
-        let place = folds[k] as usize;
-        let found = finding(
-            sides, shear, shear_x, p, f, dpi, rects, directions, contrasts, place,
-        );
-        all = all & put::put_ranked(found, ranks, at + k, page, facts, scores);
-        k += 1;
-    }
-    all
+    put::put_all(
+        |k| {
+            let place = folds[k] as usize;
+            finding(
+                sides, shear, shear_x, p, f, dpi, rects, directions, contrasts, place,
+            )
+        },
+        folds.len(),
+        ranks,
+        at,
+        page,
+        facts,
+        scores,
+    )
 }

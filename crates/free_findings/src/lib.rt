@@ -18,10 +18,8 @@ pub fn list(printed: &[u32], free: &[u32], out: &mut [u32])
     requires { NumbersGiven printed.now free.now × (length free.now ≤ length out.old) }
     ensures { out.new ≡ written (free_places printed.now free.now) out.old }
 {
-    let mut k = 0;
-    while k < free.len() {
-        out[k] = printed[free[k] as usize];
-        k += 1;
+    for (k, place) in free.iter().enumerate() {
+        out[k] = printed[*place as usize];
     }
 }
 

@@ -5,7 +5,7 @@ ghost use Rattle.std.specs.Prelude.{◌≡◌, map, ◌+◌, ◌<◌, ◌≤◌,
 ghost use Rattle.std.proofs.lemmas.List.Edits.{sets};
 ghost use Rattle.sets.specs.Listing.{members_of};
 ghost use Rattle.finding_lists.specs.Steps.{Wrote, RanksGiven};
-ghost use Rattle.findings.specs.Steps.{grid_key, Mapping, AllGiven, GridRectsGiven, GridsGiven};
+ghost use Rattle.findings.specs.Steps.{grid_key, Mapping, SetGiven, AllGiven, GridRectsGiven, GridsGiven};
 ghost use Rattle.findings.specs.Made.{grid_of};
 
 use evidence::finding::Finding;
@@ -13,6 +13,14 @@ use finding_lists::put;
 use findings::{page, places};
 use layout::sides::Sides;
 use params::settings::{FusionParams, RulingsParams};
+
+// The key of the finding of the grid that is a set of boxes.
+fn key(sides: Sides, shear: &[i32], shear_x: &[i32], rects: &[u32], set: &[u32]) -> u64
+    requires { Mapping sides shear.now shear_x.now × SetGiven sides.w sides.h rects.now set.now }
+    ensures { result ≡ grid_key sides shear.now shear_x.now rects.now set.now }
+{
+    page::rect_key(sides, shear, shear_x, rects::bounding(rects, set), 18)
+}
 
 // The keys of the grids' findings, from place `at` of the list on.
 pub fn keys(
@@ -34,12 +42,15 @@ pub fn keys(
         (map (λ n. grid_key sides shear.now shear_x.now rects.now
         (members_of members.now ends.now count n)) numbers.now) }
 {
-    let mut k = 0;
-    while k < numbers.len() {
-        let set = listings::members_of(members, ends, count, numbers[k] as usize);
-        keys[at + k] = page::rect_key(sides, shear, shear_x, rects::bounding(rects, set), 18);
-        k += 1;
-    }
+    findings::keys::put_all(
+        |k| {
+            let set = listings::members_of(members, ends, count, numbers[k] as usize);
+            key(sides, shear, shear_x, rects, set)
+        },
+        numbers.len(),
+        at,
+        keys,
+    )
 }
 
 // The finding of the grid that is a set of boxes. A box is ticked where its mark is 1.
@@ -95,13 +106,16 @@ pub fn write(
         (record { rects = page.old; facts = map (λ x. x.now) facts.old; scores = map (λ x. x.now) scores.old })
         (record { rects = page.new; facts = map (λ x. x.now) facts.new; scores = map (λ x. x.now) scores.new }) result }
 {
-    let mut all = true;
-    let mut k = 0;
-    while k < numbers.len() {
-        let set = listings::members_of(members, ends, count, numbers[k] as usize);
-        let found = finding(sides, shear, shear_x, p, f, rects, marks, coverages, set);
-        all = all & put::put_ranked(found, ranks, at + k, page, facts, scores);
-        k += 1;
-    }
-    all
+    put::put_all(
+        |k| {
+            let set = listings::members_of(members, ends, count, numbers[k] as usize);
+            finding(sides, shear, shear_x, p, f, rects, marks, coverages, set)
+        },
+        numbers.len(),
+        ranks,
+        at,
+        page,
+        facts,
+        scores,
+    )
 }

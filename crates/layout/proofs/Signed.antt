@@ -5,28 +5,16 @@ use Prim.Native.Nat.{ℕ, zero, suc, ◌+◌, ◌-◌, ◌^◌, ◌≤◌, ◌<�
 use native.Mathlib.Omega.{arith}
 use lib.Dec.{T, ltb}
 use lib.IntN.{ℤ, pos, negsuc, nat_abs, sub_ℕ, ◌-ℤ◌}
-use lib.Signed.{mag, non_neg, lt_z, le_z}
+use lib.Signed.{mag, non_neg}
 use mir.Syntax.{Width, w64}
 use mir.Val.{Fits, SFits, of_z, to_z}
 use mir.ValLaws.{to_z-of_z, to_z_pos}
-use borrow.Author.Tests.{ltb-true, le-ltb}
-use Rattle.layout.specs.ToPage.{nearest}
+use borrow.Author.Tests.{le-ltb}
+use Rattle.std.specs.Int.{int_min, int_max}
+use Rattle.std.proofs.lemmas.Bool.Decides.{nat_tests}
+use Rattle.layout.specs.ToPage.{lesser, greater, nearest}
 
 module _ (w : Width) (z : ℤ) (fits : SFits w z) where
-  pub not_below : lt_z (to_z w (of_z w z)) (pos 0) ≡ false → non_neg z ≡ true
-  not_below t = at z (rw (to_z-of_z w z fits) at t)
-    where
-      at : (z : ℤ) → lt_z z (pos 0) ≡ false → non_neg z ≡ true
-      at (pos n) t = refl
-      at (negsuc n) t = absurd (true≢false t)
-
-  pub below : lt_z (to_z w (of_z w z)) (pos 0) ≡ true → non_neg z ≡ false
-  below t = at z (rw (to_z-of_z w z fits) at t)
-    where
-      at : (z : ℤ) → lt_z z (pos 0) ≡ true → non_neg z ≡ false
-      at (pos n) t = absurd (omega (arith, ltb-true n 0 t))
-      at (negsuc n) t = refl
-
   -- a number that is not below 0 can be cast
   pub cast_whole : mag z < 2 ^ 63 → non_neg z ≡ true → T (non_neg (to_z w (of_z w z))) × Fits w64 (nat_abs (to_z w (of_z w z)))
   cast_whole h t = rw (to_z-of_z w z fits) (at z h t)
@@ -35,18 +23,6 @@ module _ (w : Width) (z : ℤ) (fits : SFits w z) where
       at (pos n) h t = (tt, record { fits = omega arith })
       at (negsuc n) h t = absurd (true≢false (sym t))
 
--- ---- choices by order
-
-module _ (a b x y : ℤ) (fa : SFits w64 a) (fb : SFits w64 b) where
-  order : le_z (to_z w64 (of_z w64 a)) (to_z w64 (of_z w64 b)) ≡ le_z a b
-  order = rw (to_z-of_z w64 a fa, to_z-of_z w64 b fb)
-
-  pub first_of : SFits w64 x → le_z (to_z w64 (of_z w64 a)) (to_z w64 (of_z w64 b)) ≡ true → to_z w64 (of_z w64 x) ≡ cond (le_z a b) x y
-  first_of f t = to_z-of_z w64 x f ∙ sym (ap (λ (k : Bool). cond k x y) (sym order ∙ t))
-
-  pub second_of : SFits w64 y → le_z (to_z w64 (of_z w64 a)) (to_z w64 (of_z w64 b)) ≡ false → to_z w64 (of_z w64 y) ≡ cond (le_z a b) x y
-  second_of f t = to_z-of_z w64 y f ∙ sym (ap (λ (k : Bool). cond k x y) (sym order ∙ t))
-
 -- an i64 that is passed on is read back from its bits
 abbrev pub passed : ℤ → ℤ
 passed z = to_z w64 (of_z w64 z)
@@ -54,13 +30,29 @@ passed z = to_z w64 (of_z w64 z)
 pub passed_is : (z : ℤ) → mag z < 2 ^ 63 → passed z ≡ z
 passed_is z h = to_z-of_z w64 z (record { sfits = h })
 
--- a choice of two choices
-pub choice_of_four : (g : ℤ → ℤ → ℤ) (a b c d l m n : ℤ) → SFits w64 a → SFits w64 b → SFits w64 c → SFits w64 d → mag l < 2 ^ 63 → mag m < 2 ^ 63 → mag n < 2 ^ 63 → l ≡ g (passed a) (passed b) → m ≡ g (passed c) (passed d) → n ≡ g (passed l) (passed m) → passed n ≡ g (g a b) (g c d)
-choice_of_four g a b c d l m n fa fb fc fd fl fm fn el em en =
+-- ---- choices by order
+
+pub lesser_is : (a b : ℤ) → int_min a b ≡ lesser a b
+lesser_is (pos a) (pos b) = grind (arith, nat_tests)
+lesser_is (pos a) (negsuc b) = grind (arith, nat_tests)
+lesser_is (negsuc a) (pos b) = grind (arith, nat_tests)
+lesser_is (negsuc a) (negsuc b) = grind (arith, nat_tests)
+
+pub greater_is : (a b : ℤ) → int_max a b ≡ greater a b
+greater_is (pos a) (pos b) = grind (arith, nat_tests)
+greater_is (pos a) (negsuc b) = grind (arith, nat_tests)
+greater_is (negsuc a) (pos b) = grind (arith, nat_tests)
+greater_is (negsuc a) (negsuc b) = grind (arith, nat_tests)
+
+-- a choice of two choices, by a choice that is the same
+pub choice_of_four : (h g : ℤ → ℤ → ℤ) → ((a b : ℤ) → h a b ≡ g a b) → (a b c d l m n : ℤ) → SFits w64 a → SFits w64 b → SFits w64 c → SFits w64 d → mag l < 2 ^ 63 → mag m < 2 ^ 63 → mag n < 2 ^ 63 → l ≡ h (passed a) (passed b) → m ≡ h (passed c) (passed d) → n ≡ h (passed l) (passed m) → passed n ≡ g (g a b) (g c d)
+choice_of_four h g same a b c d l m n fa fb fc fd fl fm fn el em en =
     passed_is n fn
     ∙ en
-    ∙ ap₂ g (passed_is l fl ∙ el) (passed_is m fm ∙ em)
-    ∙ ap₂ g (ap₂ g (to_z-of_z w64 a fa) (to_z-of_z w64 b fb)) (ap₂ g (to_z-of_z w64 c fc) (to_z-of_z w64 d fd))
+    ∙ ap₂ h (passed_is l fl ∙ el) (passed_is m fm ∙ em)
+    ∙ ap₂ h (ap₂ h (to_z-of_z w64 a fa) (to_z-of_z w64 b fb)) (ap₂ h (to_z-of_z w64 c fc) (to_z-of_z w64 d fd))
+    ∙ same (h a b) (h c d)
+    ∙ ap₂ g (same a b) (same c d)
 
 -- ---- differences
 
@@ -92,18 +84,6 @@ module _ (a b : ℕ) (p : a ≤ 8192) (q : b ≤ 8192) where
   difference_is = rw read (to_z-of_z w64 (sub_ℕ a b) small)
 
 -- ---- the nearest of the numbers 0 to side − 1
-
-pub nearest_below : (side : ℕ) (z : ℤ) → non_neg z ≡ false → 0 ≡ nearest side z
-nearest_below side (pos n) t = absurd (true≢false t)
-nearest_below side (negsuc n) t = refl
-
-pub nearest_within : (side : ℕ) (z : ℤ) → non_neg z ≡ true → nat_abs z < side → nat_abs z ≡ nearest side z
-nearest_within side (pos n) t h = omega arith
-nearest_within side (negsuc n) t h = absurd (true≢false (sym t))
-
-pub nearest_past : (side : ℕ) (z : ℤ) → non_neg z ≡ true → side ≤ nat_abs z → side - 1 ≡ nearest side z
-nearest_past side (pos n) t h = omega arith
-nearest_past side (negsuc n) t h = absurd (true≢false (sym t))
 
 pub nearest_less : (side : ℕ) (z : ℤ) → 0 < side → nearest side z < side
 nearest_less side (pos n) h = omega arith

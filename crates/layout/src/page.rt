@@ -25,30 +25,11 @@ fn difference(a: usize, b: usize) -> i64
     (a as i64) - (b as i64)
 }
 
-fn lesser(a: i64, b: i64) -> i64
-    ensures { result ≡ To.lesser a b }
-{
-    if a <= b { a } else { b }
-}
-
-fn greater(a: i64, b: i64) -> i64
-    ensures { result ≡ To.greater a b }
-{
-    if a <= b { b } else { a }
-}
-
 // The nearest of the numbers 0 to side − 1.
 fn nearest(side: usize, z: i64) -> usize
     ensures { result ≡ To.nearest side z }
 {
-    if z < 0 {
-        return 0;
-    }
-    let n = z as usize;
-    if n < side {
-        return n;
-    }
-    if side == 0 { 0 } else { side - 1 }
+    (z.max(0) as usize).min(side.saturating_sub(1))
 }
 
 // The nearest place inside the page, as a coordinate.
@@ -62,13 +43,13 @@ fn clamped(side: usize, z: i64) -> u32
 fn least(a: i64, b: i64, c: i64, d: i64) -> i64
     ensures { result ≡ To.least a b c d }
 {
-    lesser(lesser(a, b), lesser(c, d))
+    a.min(b).min(c.min(d))
 }
 
 fn greatest(a: i64, b: i64, c: i64, d: i64) -> i64
     ensures { result ≡ To.greatest a b c d }
 {
-    greater(greater(a, b), greater(c, d))
+    a.max(b).max(c.max(d))
 }
 
 // `to_page`, for sides and tables that pass their questions, and a place inside the picture.

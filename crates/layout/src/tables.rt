@@ -1,6 +1,7 @@
 // The shear tables.
-ghost use Rattle.std.specs.Prelude.{◌≡◌, ◌≤◌, ◌<◌, length};
-ghost use Rattle.layout.specs.Tables.{entry, entries_fit, entry_fits, shears_long, shears_fit};
+ghost use Rattle.std.specs.Prelude.{◌≡◌, ◌≤◌, ◌<◌, ◌&&◌, leb, nat_abs, length};
+ghost use Rattle.std.specs.Int.Signed.{non_neg};
+ghost use Rattle.layout.specs.Tables.{entry, entries_fit, shears_long, shears_fit};
 ghost use Rattle.layout.specs.Steps.{NotBelow};
 
 use crate::sides::Sides;
@@ -13,27 +14,21 @@ pub fn entry_at(table: &[i32], i: usize) -> usize
     table[i] as usize
 }
 
-fn entry_fits(table: &[i32], i: usize, limit: usize) -> bool
-    requires { i < length table.now }
-    ensures { result ≡ entry_fits limit table.now i }
+// An entry is from 0 to limit.
+fn entry_fits(z: i32, limit: usize) -> bool
+    ensures { result ≡ non_neg z && leb (nat_abs z) limit }
 {
-    let z = table[i];
-    if z < 0 {
-        return false;
-    }
-    z as usize <= limit
+    0 <= z && z as usize <= limit
 }
 
 // Every entry is from 0 to limit.
 pub fn entries_fit(table: &[i32], limit: usize) -> bool
     ensures { result ≡ entries_fit limit table.now }
 {
-    let mut i = 0;
-    while i < table.len() {
-        if !entry_fits(table, i, limit) {
+    for z in table {
+        if !entry_fits(*z, limit) {
             return false;
         }
-        i += 1;
     }
     true
 }

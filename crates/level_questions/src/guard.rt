@@ -6,7 +6,8 @@ ghost use Rattle.level_questions.specs.Questions.{level_questions};
 use layout::sides::Sides;
 use layout::{sides, tables};
 
-// The number of the first missed question; page and level are the lengths of the page raster and of the levelled raster.
+// The number of the first missed question, or 0: C gets this number as it is. page and level are the lengths of the page raster and of
+// the levelled raster.
 pub fn missed(sides: Sides, page: usize, shear: &[i32], shear_x: &[i32], level: usize) -> u32
     ensures { result ≡ first_missed (level_questions sides page shear.now shear_x.now level) }
 {

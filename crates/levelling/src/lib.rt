@@ -12,7 +12,7 @@ ghost use Rattle.layout.specs.Level.{column_shows, page_shows, levelled};
 use layout::sides::Sides;
 use layout::tables;
 use shear_runs::columns::Part;
-use shear_runs::{bands, columns, raster};
+use shear_runs::{bands, columns};
 
 // Page columns from column `from` on, moved down by `shear`, as levelled row y shows them.
 fn level_run(sides: Sides, gray: &[u8], out: &mut [u8], from: usize, shear: usize, y: usize)
@@ -20,15 +20,15 @@ fn level_run(sides: Sides, gray: &[u8], out: &mut [u8], from: usize, shear: usiz
     ensures { Painted (column_shows sides gray.now shear) from y out.old out.new }
 {
     if y < shear {
-        return raster::whiten(out);
+        return out.fill(255);
     }
     let row = y - shear;
     if sides.ph <= row {
-        return raster::whiten(out);
+        return out.fill(255);
     }
     let start = row * sides.pw + from;
     let end = start + out.len();
-    raster::copy(out, &gray[start..end])
+    out.copy_from_slice(&gray[start..end])
 }
 
 // Page column x, moved down by `down`, as levelled row y shows it.
@@ -51,11 +51,9 @@ fn level_pixels(sides: Sides, gray: &[u8], shear: &[i32], out: &mut [u8], from: 
     requires { Sheets sides gray.now shear.now × (from + length out.old ≤ sides.pw) }
     ensures { Painted (page_shows sides gray.now shear.now) from y out.old out.new }
 {
-    let mut k = 0;
-    while k < out.len() {
+    for (k, pixel) in out.iter_mut().enumerate() {
         let x = from + k;
-        out[k] = level_pixel(sides, gray, x, tables::entry_at(shear, x), y);
-        k += 1;
+        *pixel = level_pixel(sides, gray, x, tables::entry_at(shear, x), y);
     }
 }
 
@@ -121,10 +119,8 @@ fn level_columns(
     ensures { LevelledArea sides gray.now shear.now shear_x.now (Columns (entry shear_x.now) from part.to) y0 y1
         out.old out.new }
 {
-    let mut y = y0;
-    while y < y1 {
+    for y in y0..y1 {
         level_part(sides, gray, shear, shear_x, out, from, part, y);
-        y += 1;
     }
 }
 
@@ -134,8 +130,8 @@ fn pad_row(w: usize, out: &mut [u8], y: usize, from: usize, to: usize)
     ensures { Whitened w (InRows y (y + 1) (Outside from to)) out.old out.new }
 {
     let row = y * w;
-    raster::whiten(&mut out[row..row + from]);
-    raster::whiten(&mut out[row + to..row + w])
+    out[row..row + from].fill(255);
+    out[row + to..row + w].fill(255)
 }
 
 // White paper left and right of the page, in the rows from y0 up to y1.
@@ -143,15 +139,13 @@ fn pad_rows(sides: Sides, shear_x: &[i32], out: &mut [u8], y0: usize, y1: usize)
     requires { Frame sides shear_x.now × ((length out.old ≡ sides.w * sides.h) × ((y0 ≤ y1) × (y1 ≤ sides.h))) }
     ensures { Whitened sides.w (InRows y0 y1 (Margins sides shear_x.now)) out.old out.new }
 {
-    let mut y = y0;
-    while y < y1 {
+    for y in y0..y1 {
         let from = tables::entry_at(shear_x, y);
         pad_row(sides.w, out, y, from, from + sides.pw);
-        y += 1;
     }
 }
 
-// The rows from y0 up to y1.
+// The rows from y0 up to y1. The loop goes from part to part.
 fn level_rows(
     sides: Sides,
     gray: &[u8],
@@ -174,6 +168,7 @@ fn level_rows(
 }
 
 // The levelled raster, for sides, tables and rasters that pass their questions. Bands of 16 rows keep what is written in the cache.
+// `step_by` would be no plainer, since a band needs its end too.
 pub fn level(sides: Sides, gray: &[u8], shear: &[i32], shear_x: &[i32], out: &mut [u8])
     requires { Ready sides gray.now shear.now shear_x.now out.old }
     ensures { out.new ≡ levelled sides gray.now shear.now shear_x.now }

@@ -20,7 +20,7 @@ use Rattle.evidence.specs.declared.finding.Kind.TheVariants.{Table, FreeRules, G
 use Rattle.evidence.specs.declared.finding.Finding.{Finding}
 use Rattle.evidence.specs.declared.finding.Row.{Row}
 use Rattle.evidence.specs.Finding.{row_with, row_of}
-use Rattle.read_findings.specs.declared.FindingAt.TheVariants.{Found, Nothing}
+use Rattle.std.specs.Prelude.{Some, None}
 use Rattle.finding_lists.specs.Columns.{Columns, rect_of, fact, score, AllWritten}
 use Rattle.read_findings.specs.Steps.{Standing}
 use Rattle.read_findings.specs.Read.{finding_with, finding_of, all_long, stands, fact_at, score_at, row_at, finding_at}
@@ -94,7 +94,7 @@ row_from_lem l i {r} {e} {f} p q s = ap (λ (x : Rect). row_from l i x e f) p �
 
 -- ---- what was put is what is read
 
-read_kind : (f : Finding) (k : Kind) → finding_of (row_with f k) ≡ Found (finding_with (row_with f k) k)
+read_kind : (f : Finding) (k : Kind) → finding_of (row_with f k) ≡ Some (finding_with (row_with f k) k)
 unfolding finding_of
 read_kind f (Table rows columns rulings second) = refl
 read_kind f (FreeRules horizontal vertical longest second) = refl
@@ -103,7 +103,7 @@ read_kind f (Fold true length) = refl
 read_kind f (Fold false length) = refl
 
 -- the row of a finding names it
-pub read_row : (f : Finding) → finding_of (row_of f) ≡ Found f
+pub read_row : (f : Finding) → finding_of (row_of f) ≡ Some f
 read_row f = read_kind f f.kind
 
 module _ (rows : List Row) (none : Row) {l l' : Columns} (W : AllWritten rows l l') (i : ℕ) (h : i < length rows) where
@@ -163,11 +163,11 @@ module _ (rows : List Row) (none : Row) {l l' : Columns} (W : AllWritten rows l 
       }
 
 -- findings that were put are what is read
-pub put_then_read : (fs : List Finding) (none : Finding) {l l' : Columns} → AllWritten (map row_of fs) l l' → (i : ℕ) → i < length fs → finding_at l' (length fs) i ≡ Found (get_or fs i none)
+pub put_then_read : (fs : List Finding) (none : Finding) {l l' : Columns} → AllWritten (map row_of fs) l l' → (i : ℕ) → i < length fs → finding_at l' (length fs) i ≡ Some (get_or fs i none)
 put_then_read fs none {l} {l'} W i h =
     let n = length-map fs row_of in
     let at : i < length (map row_of fs) = omega arith in
     let yes = and_both (lt-ltb i (length fs) h) (stands_of l' i (written_stands (map row_of fs) (row_of none) W i at)) in
-    ap (λ (t : Bool). cond t (finding_of (row_at l' i)) Nothing) yes
+    ap (λ (t : Bool). cond t (finding_of (row_at l' i)) None) yes
     ∙ ap finding_of (read_back (map row_of fs) (row_of none) W i at ∙ get_d_of row_of fs i (row_of none) none h)
     ∙ read_row (get_or fs i none)

@@ -1,5 +1,5 @@
 -- A finding read back from the lists: what was put is what is read (proofs/Reading).
-use Rattle.std.specs.Prelude.{Bool, true, false, cond, ◌&&◌, List, [], ◌∷◌, ℕ, eqb, ltb, Float, length, get_or}
+use Rattle.std.specs.Prelude.{Bool, true, false, cond, ◌&&◌, List, [], ◌∷◌, ℕ, eqb, ltb, Float, Option, Some, None, length, get_or}
 use Rattle.std.specs.Float.{nan}
 use Rattle.lists.specs.Lists.{every_below}
 use Rattle.rects.specs.Rects.{count, rect_at}
@@ -7,8 +7,6 @@ use Rattle.evidence.specs.declared.finding.Kind.{Kind}
 use Rattle.evidence.specs.declared.finding.Kind.TheVariants.{Table, FreeRules, Grid, Fold}
 use Rattle.evidence.specs.declared.finding.Finding.{Finding}
 use Rattle.evidence.specs.declared.finding.Row.{Row}
-use Rattle.read_findings.specs.declared.FindingAt.{FindingAt}
-use Rattle.read_findings.specs.declared.FindingAt.TheVariants.{Found, Nothing}
 use Rattle.finding_lists.specs.Columns.{Columns}
 
 -- The finding of a row, with what its kind has.
@@ -16,18 +14,18 @@ abbrev pub finding_with : Row → Kind → Finding
 finding_with r k = record { log_odds = r.log_odds; bbox = r.bbox; first = r.first; kind = k }
 
 -- A fold's direction is 0 or 1; a row with another is no finding.
-abbrev pub fold_of : Row → FindingAt
+abbrev pub fold_of : Row → Option Finding
 fold_of r =
-    cond (eqb r.a 0) (Found (finding_with r (Fold false r.length)))
-    (cond (eqb r.a 1) (Found (finding_with r (Fold true r.length))) Nothing)
+    cond (eqb r.a 0) (Some (finding_with r (Fold false r.length)))
+    (cond (eqb r.a 1) (Some (finding_with r (Fold true r.length))) None)
 
 -- The finding of a row, by the number of its kind; a row with another number is no finding.
-unfoldable pub finding_of : Row → FindingAt
+unfoldable pub finding_of : Row → Option Finding
 finding_of r =
-    cond (eqb r.kind 16) (Found (finding_with r (Table r.a r.b r.c r.second)))
-    (cond (eqb r.kind 17) (Found (finding_with r (FreeRules r.a r.b r.c r.second)))
-    (cond (eqb r.kind 18) (Found (finding_with r (Grid r.a r.b r.second)))
-    (cond (eqb r.kind 19) (fold_of r) Nothing)))
+    cond (eqb r.kind 16) (Some (finding_with r (Table r.a r.b r.c r.second)))
+    (cond (eqb r.kind 17) (Some (finding_with r (FreeRules r.a r.b r.c r.second)))
+    (cond (eqb r.kind 18) (Some (finding_with r (Grid r.a r.b r.second)))
+    (cond (eqb r.kind 19) (fold_of r) None)))
 
 -- The content of the lists, list by list.
 abbrev pub columns : (rects kinds a b c : List ℕ) (odds value threshold llr value₂ threshold₂ llr₂ lengths : List Float) → Columns
@@ -70,5 +68,5 @@ row_at l i =
     }
 
 -- The finding at place i: none at or past the count, or where a list ends before it.
-abbrev pub finding_at : Columns → ℕ → ℕ → FindingAt
-finding_at l count i = cond (ltb i count && stands l i) (finding_of (row_at l i)) Nothing
+abbrev pub finding_at : Columns → ℕ → ℕ → Option Finding
+finding_at l count i = cond (ltb i count && stands l i) (finding_of (row_at l i)) None

@@ -9,84 +9,77 @@ ghost use Rattle.read_findings.specs.Steps.{Standing};
 use evidence::finding::{Evidence, Finding, Kind, Row};
 use layout::rect::PageRect;
 
-// What stands at a place of the lists.
-#[derive(Clone, Copy)]
-pub enum FindingAt {
-    Found(Finding),
-    Nothing,
-}
-
 // The finding of a row, with what its kind has.
-fn with_kind(row: Row, kind: Kind) -> FindingAt
-    ensures { result ≡ FindingAt.Found (finding_with row kind) }
+fn with_kind(row: Row, kind: Kind) -> Finding
+    ensures { result ≡ finding_with row kind }
 {
-    let bbox = row.bbox;
-    let first = row.first;
-    let finding = Finding {
+    Finding {
         log_odds: row.log_odds,
-        bbox,
-        first,
+        bbox: row.bbox,
+        first: row.first,
         kind,
-    };
-    FindingAt::Found(finding)
+    }
 }
 
 // A fold has one of two directions.
-fn fold_of(row: Row) -> FindingAt
+fn fold_of(row: Row) -> Option<Finding>
     ensures { result ≡ fold_of row }
 {
     let length = row.length;
-    if row.a == 0 {
-        let kind = Kind::Fold {
-            vertical: false,
-            length,
-        };
-        return with_kind(row, kind);
+    match row.a {
+        0 => Some(with_kind(
+            row,
+            Kind::Fold {
+                vertical: false,
+                length,
+            },
+        )),
+        1 => Some(with_kind(
+            row,
+            Kind::Fold {
+                vertical: true,
+                length,
+            },
+        )),
+        _ => None,
     }
-    if row.a == 1 {
-        let kind = Kind::Fold {
-            vertical: true,
-            length,
-        };
-        return with_kind(row, kind);
-    }
-    FindingAt::Nothing
 }
 
-pub fn finding_of(row: Row) -> FindingAt
+#[tactic(auto, unfolding(crate::specs::Read::finding_of))]
+pub fn finding_of(row: Row) -> Option<Finding>
     ensures { result ≡ finding_of row }
 {
     let second = row.second;
-    if row.kind == 16 {
-        let kind = Kind::Table {
-            rows: row.a,
-            columns: row.b,
-            rulings: row.c,
-            second,
-        };
-        return with_kind(row, kind);
+    match row.kind {
+        16 => Some(with_kind(
+            row,
+            Kind::Table {
+                rows: row.a,
+                columns: row.b,
+                rulings: row.c,
+                second,
+            },
+        )),
+        17 => Some(with_kind(
+            row,
+            Kind::FreeRules {
+                horizontal: row.a,
+                vertical: row.b,
+                longest: row.c,
+                second,
+            },
+        )),
+        18 => Some(with_kind(
+            row,
+            Kind::Grid {
+                boxes: row.a,
+                ticked: row.b,
+                second,
+            },
+        )),
+        19 => fold_of(row),
+        _ => None,
     }
-    if row.kind == 17 {
-        let kind = Kind::FreeRules {
-            horizontal: row.a,
-            vertical: row.b,
-            longest: row.c,
-            second,
-        };
-        return with_kind(row, kind);
-    }
-    if row.kind == 18 {
-        let kind = Kind::Grid {
-            boxes: row.a,
-            ticked: row.b,
-            second,
-        };
-        return with_kind(row, kind);
-    }
-    if row.kind == 19 {
-        return fold_of(row);
-    }
-    FindingAt::Nothing
 }
 
 // Has each list of whole numbers an entry i?
@@ -183,7 +176,7 @@ pub fn finding_at(
     lengths: &[f64],
     count: usize,
     i: usize,
-) -> FindingAt
+) -> Option<Finding>
     ensures { result ≡ finding_at (columns rects.now kinds.now a.now b.now c.now
         log_odds.now
         first_values.now first_thresholds.now first_llrs.now
@@ -211,5 +204,5 @@ pub fn finding_at(
         );
         return finding_of(row);
     }
-    FindingAt::Nothing
+    None
 }

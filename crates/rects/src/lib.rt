@@ -55,23 +55,23 @@ pub fn union_rect(a: Rect, b: Rect) -> Rect
     ensures { result ≡ union_of a b }
 {
     Rect {
-        x0: least(a.x0, b.x0),
-        y0: least(a.y0, b.y0),
-        x1: greatest(a.x1, b.x1),
-        y1: greatest(a.y1, b.y1),
+        x0: a.x0.min(b.x0),
+        y0: a.y0.min(b.y0),
+        x1: a.x1.max(b.x1),
+        y1: a.y1.max(b.y1),
     }
 }
 
 pub fn least(a: u32, b: u32) -> u32
     ensures { result ≡ Prim.Native.Nat.min a b }
 {
-    if a < b { a } else { b }
+    a.min(b)
 }
 
 pub fn greatest(a: u32, b: u32) -> u32
     ensures { result ≡ Prim.Native.Nat.max a b }
 {
-    if a < b { b } else { a }
+    a.max(b)
 }
 
 // Rectangle k of a number list.
@@ -106,10 +106,8 @@ pub fn bounding(rects: &[u32], places: &[u32]) -> Rect
     ensures { result ≡ around rects.now places.now }
 {
     let mut r = rect_at(rects, places[0] as usize);
-    let mut i = 1;
-    while i < places.len() {
-        r = union_rect(r, rect_at(rects, places[i] as usize));
-        i += 1;
+    for place in &places[1..] {
+        r = union_rect(r, rect_at(rects, *place as usize));
     }
     r
 }
@@ -125,13 +123,10 @@ pub fn count_fits(rects: &[u32], most: usize) -> bool
 pub fn all_inside(rects: &[u32], w: usize, h: usize) -> bool
     ensures { result ≡ all_inside w h rects.now }
 {
-    let n = rects.len() / 4;
-    let mut k = 0;
-    while k < n {
+    for k in 0..rects.len() / 4 {
         if !rect_at(rects, k).is_inside(w, h) {
             return false;
         }
-        k += 1;
     }
     true
 }

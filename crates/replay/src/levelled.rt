@@ -2,7 +2,7 @@
 // raster that is given and up to four numbers, each a list. No table has more than 64 entries, and no raster
 // more than 256 bytes.
 use layout::calls;
-use layout::calls::{Mapped, MappedRect};
+use layout::calls::Refused;
 use layout::page::Levelled;
 use layout::sides::Sides;
 use rects::Rect;
@@ -104,8 +104,8 @@ fn to_page(
 ) -> io::Result<()> {
     let mapped = calls::to_page(sides, shear, shear_x, p);
     match mapped {
-        Mapped::Place(place) => write_place(rt, 0, place.0, place.1),
-        Mapped::Refused(number) => write_place(rt, number, 0, 0),
+        Ok(place) => write_place(rt, 0, place.0, place.1),
+        Err(Refused(number)) => write_place(rt, number, 0, 0),
     }
 }
 
@@ -125,8 +125,8 @@ fn rect_to_page(
 ) -> io::Result<()> {
     let mapped = calls::rect_to_page(sides, shear, shear_x, r);
     match mapped {
-        MappedRect::Area(a) => write_area(rt, 0, &[a.x0, a.y0, a.x1, a.y1]),
-        MappedRect::RefusedArea(number) => write_area(rt, number, &[0, 0, 0, 0]),
+        Ok(a) => write_area(rt, 0, &[a.x0, a.y0, a.x1, a.y1]),
+        Err(Refused(number)) => write_area(rt, number, &[0, 0, 0, 0]),
     }
 }
 

@@ -6,5 +6,5 @@ pub fn band_end(y: usize, h: usize, rows: usize) -> usize
     requires { (y < h) × (1 ≤ rows) }
     ensures { (y < result) × (result ≤ h) }
 {
-    if h - y <= rows { h } else { y + rows }
+    h.min(y.saturating_add(rows))
 }

@@ -11,17 +11,16 @@ pub fn run_end(table: &[i32], from: usize) -> usize
     ensures { Run table.now from result }
 {
     let shear = entry_at(table, from);
-    let mut i = from + 1;
-    while i < table.len() {
+    for i in from + 1..table.len() {
         if entry_at(table, i) != shear {
             return i;
         }
-        i += 1;
     }
-    i
+    table.len()
 }
 
-// Columns that are levelled together: where they end, and whether they are a run.
+// Columns that are levelled together: where they end, and whether they are a run. An enum of the two would be no plainer: the loops
+// over columns go on at the end of either.
 #[derive(Clone, Copy)]
 pub struct Part {
     pub to: usize,

@@ -29,12 +29,12 @@ pub fn keys(
     ensures { keys.new ≡ sets keys.old at
         (map (table_key sides shear.now shear_x.now bounds.now) (below (count bounds.now))) }
 {
-    let n = bounds.len() / 4;
-    let mut k = 0;
-    while k < n {
-        keys[at + k] = page::rect_key(sides, shear, shear_x, rects::rect_at(bounds, k), 16);
-        k += 1;
-    }
+    findings::keys::put_all(
+        |k| page::rect_key(sides, shear, shear_x, rects::rect_at(bounds, k), 16),
+        bounds.len() / 4,
+        at,
+        keys,
+    )
 }
 
 // The finding of table k.
@@ -99,15 +99,17 @@ pub fn write(
         (record { rects = rects.old; facts = map (λ x. x.now) facts.old; scores = map (λ x. x.now) scores.old })
         (record { rects = rects.new; facts = map (λ x. x.now) facts.new; scores = map (λ x. x.now) scores.new }) result }
 {
-    let n = bounds.len() / 4;
-    let mut all = true;
-    let mut k = 0;
-    while k < n {
-        let found = finding(
-            sides, shear, shear_x, p, f, bounds, rows, columns, rulings, shares, k,
-        );
-        all = all & put::put_ranked(found, ranks, at + k, rects, facts, scores);
-        k += 1;
-    }
-    all
+    put::put_all(
+        |k| {
+            finding(
+                sides, shear, shear_x, p, f, bounds, rows, columns, rulings, shares, k,
+            )
+        },
+        bounds.len() / 4,
+        ranks,
+        at,
+        rects,
+        facts,
+        scores,
+    )
 }

@@ -11,7 +11,7 @@ ghost use Rattle.unlevelling.specs.Steps.{Archived, PageLong, BackArea, PageColu
 use layout::sides::Sides;
 use layout::tables;
 use shear_runs::columns::Part;
-use shear_runs::{bands, columns, raster};
+use shear_runs::{bands, columns};
 
 // Where page pixel (x, y) stands in the levelled raster, `down` rows below.
 fn place_of(sides: Sides, shear_x: &[i32], x: usize, y: usize, down: usize) -> usize
@@ -40,13 +40,11 @@ fn unlevel_run(
         out.new }
 {
     let down = tables::entry_at(shear, from);
-    let mut y = y0;
-    while y < y1 {
+    for y in y0..y1 {
         let start = place_of(sides, shear_x, from, y, down);
         let end = start + (to - from);
         let row = y * sides.pw;
-        raster::copy(&mut out[row + from..row + to], &level[start..end]);
-        y += 1;
+        out[row + from..row + to].copy_from_slice(&level[start..end]);
     }
 }
 
@@ -66,10 +64,8 @@ fn unlevel_column(
         out.new }
 {
     let down = tables::entry_at(shear, x);
-    let mut y = y0;
-    while y < y1 {
+    for y in y0..y1 {
         out[y * sides.pw + x] = level[place_of(sides, shear_x, x, y, down)];
-        y += 1;
     }
 }
 
@@ -89,10 +85,8 @@ fn unlevel_each(
     ensures { BackArea sides level.now shear.now shear_x.now (PageColumns from to) y0 y1 out.old
         out.new }
 {
-    let mut x = from;
-    while x < to {
+    for x in from..to {
         unlevel_column(sides, level, shear, shear_x, out, x, y0, y1);
-        x += 1;
     }
 }
 
@@ -118,7 +112,7 @@ fn unlevel_part(
     unlevel_each(sides, level, shear, shear_x, out, from, part.to, y0, y1)
 }
 
-// The rows from y0 up to y1.
+// The rows from y0 up to y1. The loop goes from part to part.
 fn unlevel_rows(
     sides: Sides,
     level: &[u8],
@@ -140,6 +134,7 @@ fn unlevel_rows(
 }
 
 // The page, for sides, tables and rasters that pass their questions. Bands of 64 rows keep a part's rows in the cache.
+// `step_by` would be no plainer, since a band needs its end too.
 pub fn unlevel(sides: Sides, level: &[u8], shear: &[i32], shear_x: &[i32], out: &mut [u8])
     requires { Archived sides level.now shear.now shear_x.now × PageLong sides out.old }
     ensures { out.new ≡ unlevelled sides level.now shear.now shear_x.now }

@@ -4,7 +4,6 @@ use mathlib.Core.List.{List, map}
 use Prim.Native.Nat.{ℕ, ◌+◌, ◌≤◌, ◌<◌, zero-le}
 use native.Mathlib.Omega.{arith}
 use lib.ListN.{length, get_or, set}
-use borrow.Author.Rules.{scaled_Fits}
 use Rattle.lists.specs.Lists.{below, written}
 use Rattle.lists.proofs.Keep.{length_values, values_more, map_map, by_place}
 use Rattle.lists.proofs.Written.{written_length, written_more}
@@ -37,38 +36,8 @@ module _ (printed free out₀ : List ℕ) (room : length free ≤ length out₀)
 pub loop-k-init : goal.loop-k-init
 loop-k-init c = begin c.args.printed.now c.args.free.now c.args.out.now c.requires.1
 
-pub offset_bounds-free-k : goal.offset_bounds-free-k
-offset_bounds-free-k c = scaled_Fits c.loop-k.k (length c.args.free.now) 4 c.loop-k-test.true c.well_formed.1.0.1
-
-pub bounds-free-k : goal.bounds-free-k
-bounds-free-k c = c.loop-k-test.true
-
-pub overflow_cast-out : goal.overflow_cast-out
-overflow_cast-out c = omega (arith, c.shared_slice_known-1.given c.loop-k.k)
-
-pub offset_bounds-printed-free : goal.offset_bounds-printed-free
-offset_bounds-printed-free c = scaled_Fits (get_or c.args.free.now c.loop-k.k 0) (length c.args.printed.now) 4 (c.requires.0.number c.loop-k.k c.loop-k-test.true) c.well_formed.0.1
-
-pub bounds-printed-free : goal.bounds-printed-free
-bounds-printed-free c = c.requires.0.number c.loop-k.k c.loop-k-test.true
-
-pub offset_bounds-out-k : goal.offset_bounds-out-k
-offset_bounds-out-k c = scaled_Fits c.loop-k.k (length c.args.free.now) 4 c.loop-k-test.true c.well_formed.1.0.1
-
-pub bounds-out-k : goal.bounds-out-k
-bounds-out-k c = rw (long c.args.printed.now c.args.free.now c.args.out.now c.requires.1 c.loop-k.invariant) (omega (arith, c.loop-k-test.true, c.requires.1))
-
-pub overflow_add-k : goal.overflow_add-k
-overflow_add-k c = record { fits = omega (arith, c.loop-k-test.true, c.requires.0.few) }
-
-pub loop-k-smaller : goal.loop-k-smaller
-loop-k-smaller c = omega (arith, c.loop-k-test.true)
-
 pub loop-k-preserved : goal.loop-k-preserved
 loop-k-preserved c = turn c.args.printed.now c.args.free.now c.args.out.now c.requires.1 c.loop-k.invariant c.loop-k-test.true
 
-pub shape_of-out : goal.shape_of-out
-shape_of-out c = long c.args.printed.now c.args.free.now c.args.out.now c.requires.1 c.loop-k.invariant
-
 pub returns : goal.returns
-returns c = done c.args.printed.now c.args.free.now c.args.out.now c.requires.1 c.loop-k.invariant c.loop-k-test.false
+returns c = done c.args.printed.now c.args.free.now c.args.out.now c.requires.1 c.loop-k.invariant (omega arith)

@@ -1,7 +1,7 @@
 -- `free_findings::list` meets its contract. The invariant: the places of the first k free rulings stand from the front.
 use mathlib.Core.Path.{◌≡◌}
 use mathlib.Core.List.{List, map}
-use Prim.Native.Nat.{ℕ, ◌-◌, ◌≤◌}
+use Prim.Native.Nat.{ℕ, ◌≤◌}
 use lib.ListN.{length, get_or}
 use Rattle.lists.specs.Lists.{below, written}
 use Rattle.free_findings.proofs.list.Given as goal
@@ -16,6 +16,3 @@ pub record Progress (printed free out₀ : List ℕ) (k : ℕ) (out : List ℕ) 
 
 abbrev pub invariant-loop-k : goal.invariant-loop-k
 invariant-loop-k l = Progress l.printed l.free l.initial.out l.k l.out
-
-abbrev pub decreases-loop-k : goal.decreases-loop-k
-decreases-loop-k l = length l.free - l.k

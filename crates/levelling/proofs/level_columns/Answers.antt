@@ -11,27 +11,18 @@ use Rattle.levelling.proofs.level_columns.Goals as goal
 pub loop-y-init : goal.loop-y-init
 loop-y-init c =
     let a = c.args in
-    (omega arith, rows_none a.sides.w (place_shows a.sides a.gray.now a.shear.now a.shear_x.now) (Columns (entry a.shear_x.now) a.from a.part.to) a.y0 a.out.now)
+    rows_none a.sides.w (place_shows a.sides a.gray.now a.shear.now a.shear_x.now) (Columns (entry a.shear_x.now) a.from a.part.to) a.y0 a.out.now
 
 pub level_part-requires : goal.level_part-requires
 level_part-requires c =
-    (ready_after c.requires.0 c.loop-y.invariant.1, (c.requires.1.0, omega (arith, c.requires.1.1)))
-
-pub overflow_add-y : goal.overflow_add-y
-overflow_add-y c = omega (arith, c.loop-y-test.true)
-
-pub loop-y-smaller : goal.loop-y-smaller
-loop-y-smaller c = omega (arith, c.loop-y-test.true)
+    (ready_after c.requires.0 c.loop-y.invariant, (c.requires.1.0, omega (arith, c.requires.1.1)))
 
 pub loop-y-preserved : goal.loop-y-preserved
 loop-y-preserved c =
     let a = c.args in
-    (omega (arith, c.loop-y.invariant.0), rows_then a.sides.w (place_shows a.sides a.gray.now a.shear.now a.shear_x.now) (Columns (entry a.shear_x.now) a.from a.part.to) a.y0 c.loop-y.y (c.loop-y.y + 1) c.loop-y.invariant.1 c.level_part.ensures)
-
-pub shape_of-out : goal.shape_of-out
-shape_of-out c = c.loop-y.invariant.1.long
+    rows_then a.sides.w (place_shows a.sides a.gray.now a.shear.now a.shear_x.now) (Columns (entry a.shear_x.now) a.from a.part.to) a.y0 c.loop-y.y (c.loop-y.y + 1) c.loop-y.invariant c.level_part.ensures
 
 pub returns : goal.returns
 returns c =
     let a = c.args in
-    rows_fewer a.sides.w (place_shows a.sides a.gray.now a.shear.now a.shear_x.now) (Columns (entry a.shear_x.now) a.from a.part.to) a.y0 a.y1 c.loop-y.y c.loop-y-test.false c.loop-y.invariant.1
+    rows_fewer a.sides.w (place_shows a.sides a.gray.now a.shear.now a.shear_x.now) (Columns (entry a.shear_x.now) a.from a.part.to) a.y0 a.y1 c.loop-y.y c.loop-y-test.false c.loop-y.invariant

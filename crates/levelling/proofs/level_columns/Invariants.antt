@@ -1,12 +1,8 @@
 -- `levelling::level_columns` meets its contract: the columns are levelled in the rows from y0 up to y.
-use Prim.Native.Nat.{◌-◌, ◌≤◌}
 use Rattle.layout.specs.Tables.{entry}
 use Rattle.shear_runs.specs.Steps.{Columns}
 use Rattle.levelling.specs.Steps.{LevelledArea}
 use Rattle.levelling.proofs.level_columns.Given as goal
 
 abbrev pub invariant-loop-y : goal.invariant-loop-y
-invariant-loop-y l = (l.y0 ≤ l.y) × LevelledArea l.sides l.gray l.shear l.shear_x (Columns (entry l.shear_x) l.from l.part.to) l.y0 l.y l.initial.out l.out
-
-abbrev pub decreases-loop-y : goal.decreases-loop-y
-decreases-loop-y l = l.y1 - l.y
+invariant-loop-y l = LevelledArea l.sides l.gray l.shear l.shear_x (Columns (entry l.shear_x) l.from l.part.to) l.y0 l.y l.initial.out l.out

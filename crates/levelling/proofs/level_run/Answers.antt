@@ -10,10 +10,10 @@ use Rattle.levelling.proofs.level_run.Goals.{Else-sides-row}
 use Rattle.levelling.proofs.level_run.Goals as goal
 
 pub returns-then-y-shear : goal.returns-then-y-shear
-returns-then-y-shear c = let a = c.args in off_page a.sides a.gray.now a.shear a.from a.y a.out.now _ (inl (omega arith)) c.whiten.ensures
+returns-then-y-shear c = let a = c.args in off_page a.sides a.gray.now a.shear a.from a.y a.out.now _ (inl (omega arith)) (c.fill.ensures.after (λ y e. e))
 
 pub returns-then-sides-row : goal.returns-then-sides-row
-returns-then-sides-row c = let a = c.args in off_page a.sides a.gray.now a.shear a.from a.y a.out.now _ (inr (omega arith, omega arith)) c.whiten-then-sides-row.ensures
+returns-then-sides-row c = let a = c.args in off_page a.sides a.gray.now a.shear a.from a.y a.out.now _ (inr (omega arith, omega arith)) (c.fill-then-sides-row.ensures.after (λ y e. e))
 
 room : (c : Else-sides-row) → let a = c.args in ((a.y - a.shear) * a.sides.pw + a.sides.pw ≤ length a.gray.now) × (length a.gray.now ≤ 67108864)
 room c =
@@ -30,12 +30,12 @@ overflow_add-start c = omega (arith, room (goal.at.overflow_add-start c).Else-si
 pub overflow_add-end : goal.overflow_add-end
 overflow_add-end c = omega (arith, room (goal.at.overflow_add-end c).Else-sides-row)
 
-pub slice_bounds-copy-end : goal.slice_bounds-copy-end
-slice_bounds-copy-end c = omega (arith, room (goal.at.slice_bounds-copy-end c).Else-sides-row)
+pub slice_bounds-copy_from_slice-end : goal.slice_bounds-copy_from_slice-end
+slice_bounds-copy_from_slice-end c = omega (arith, room (goal.at.slice_bounds-copy_from_slice-end c).Else-sides-row)
 
 pub returns : goal.returns
 returns c =
     let a = c.args in
     let start = (a.y - a.shear) * a.sides.pw + a.from in
     let n : start + length a.out.now - start ≡ length a.out.now = omega arith in
-    on_page_lem a.sides a.gray.now a.shear a.from a.y a.out.now _ (omega arith) (omega arith) c.copy.auto.to (c.copy.ensures ∙ ap (λ (k : ℕ). take k (drop start a.gray.now)) n)
+    on_page_lem a.sides a.gray.now a.shear a.from a.y a.out.now _ (omega arith) (omega arith) c.copy_from_slice.ensures.len (c.copy_from_slice.ensures.after ∙ ap (λ (k : ℕ). take k (drop start a.gray.now)) n)

@@ -1,10 +1,8 @@
 -- `levelling::pad_rows` meets its contract: the margins are white in the rows from y0 up to y.
-use mathlib.Core.Path.{refl, ◌∙◌, subst}
-use Prim.Native.Nat.{ℕ, ◌+◌, ◌≤◌}
-use native.Mathlib.Nat.{le_antisymm}
+use mathlib.Core.Path.{◌≡◌, ◌∙◌}
+use Prim.Native.Nat.{◌+◌, ◌≤◌}
 use native.Mathlib.Omega.{arith}
-use Rattle.shear_runs.specs.Steps.{InRows}
-use Rattle.levelling.specs.Steps.{Whitened, Margins}
+use Rattle.levelling.specs.Steps.{Margins}
 use Rattle.layout.proofs.Places.{small_product, row_within}
 use Rattle.levelling.proofs.Settle.{white_none, margins_more}
 use Rattle.levelling.proofs.pad_rows.Goals.{After-struct_known-1}
@@ -13,7 +11,7 @@ use Rattle.levelling.proofs.pad_rows.Goals as goal
 pub loop-y-init : goal.loop-y-init
 loop-y-init c =
     let a = c.args in
-    ((omega arith, c.requires.1.1.0), (refl, white_none a.sides.w (Margins a.sides a.shear_x.now) a.y0 a.out.now))
+    (white_none a.sides.w (Margins a.sides a.shear_x.now) a.y0 a.out.now)
 
 pub entry_at-from-requires : goal.entry_at-from-requires
 entry_at-from-requires c =
@@ -33,27 +31,16 @@ pub pad_row-requires : goal.pad_row-requires
 pad_row-requires c =
     let framed = c.requires.0 in
     let a = c.args in
-    let long = c.loop-y.invariant.1.0 ∙ c.requires.1.0 in
+    let long = c.loop-y.auto.out ∙ c.requires.1.0 in
     ((omega arith, in_row c), (omega (arith, long, row_within a.sides.w a.sides.h {y = c.loop-y.y} (omega (arith, c.requires.1.1.1, c.loop-y-test.true))), omega (arith, long, small_product framed.wide framed.high)))
-
-pub overflow_add-y : goal.overflow_add-y
-overflow_add-y c = omega (arith, c.loop-y-test.true)
-
-pub loop-y-smaller : goal.loop-y-smaller
-loop-y-smaller c = omega (arith, c.loop-y-test.true)
 
 pub loop-y-preserved : goal.loop-y-preserved
 loop-y-preserved c =
     let a = c.args in
-    let inv = c.loop-y.invariant in (
-      (omega (arith, inv.0.0), omega (arith, c.loop-y-test.true)),
-      (c.pad_row.auto.out ∙ inv.1.0, margins_more a.sides a.shear_x.now a.y0 c.loop-y.y c.entry_at-from.result inv.0.0 c.entry_at-from.ensures inv.1.1 c.pad_row.ensures),
-    )
-
-pub shape_of-out : goal.shape_of-out
-shape_of-out c = c.loop-y.invariant.1.0
+    margins_more a.sides a.shear_x.now a.y0 c.loop-y.y c.entry_at-from.result (omega arith) c.entry_at-from.ensures c.loop-y.invariant c.pad_row.ensures
 
 pub returns : goal.returns
 returns c =
     let a = c.args in
-    subst (λ (y : ℕ). Whitened a.sides.w (InRows a.y0 y (Margins a.sides a.shear_x.now)) a.out.now c.loop-y.out) (le_antisymm c.loop-y.invariant.0.1 c.loop-y-test.false) c.loop-y.invariant.1.1
+    let end : c.loop-y.y ≡ a.y1 = omega (arith, c.requires.1.1.0) in
+    rw end at c.loop-y.invariant

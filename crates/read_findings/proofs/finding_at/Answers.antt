@@ -4,7 +4,7 @@ use mathlib.Core.Bool.{Bool, ◌&&◌, cond}
 use lib.Dec.{ltb}
 use Rattle.rects.specs.Rects.{count}
 use Rattle.lists.proofs.Every.{and_second}
-use Rattle.read_findings.specs.declared.FindingAt.TheVariants.{Nothing}
+use Rattle.std.specs.Prelude.{None}
 use Rattle.finding_lists.specs.Columns.{Columns}
 use Rattle.read_findings.specs.Read.{columns, stands, finding_of, row_at}
 use Rattle.read_findings.proofs.Reading.{halves, tests, standing_of}
@@ -33,9 +33,9 @@ returns-then-i-count c =
     let a = c.args in
     let l = lists (goal.at.returns-then-i-count c).After-four_long-2 in
     c.finding_of.ensures ∙ ap finding_of c.row_at-row.ensures
-    ∙ ap (λ (t : Bool). cond t (finding_of (row_at l a.i)) Nothing) (sym c.if-i-count.true ∙ tested (goal.at.returns-then-i-count c).After-four_long-2)
+    ∙ ap (λ (t : Bool). cond t (finding_of (row_at l a.i)) None) (sym c.if-i-count.true ∙ tested (goal.at.returns-then-i-count c).After-four_long-2)
 
 pub returns : goal.returns
 returns c =
     let a = c.args in
-    ap (λ (t : Bool). cond t (finding_of (row_at (lists (goal.at.returns c).After-four_long-2) a.i)) Nothing) (sym c.if-i-count.false ∙ tested (goal.at.returns c).After-four_long-2)
+    ap (λ (t : Bool). cond t (finding_of (row_at (lists (goal.at.returns c).After-four_long-2) a.i)) None) (sym c.if-i-count.false ∙ tested (goal.at.returns c).After-four_long-2)

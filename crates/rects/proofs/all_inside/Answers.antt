@@ -25,7 +25,7 @@ more : (w h k : ℕ) (rects : List ℕ) {t : Bool} → every_below k (λ j. insi
 more w h k rects e f g = every_more k (λ j. inside w h (rect_at rects j)) ∙ ap₂ ◌&&◌ e (sym f ∙ g)
 
 pub loop-k-init : goal.loop-k-init
-loop-k-init c = (omega arith, none _)
+loop-k-init c = none _
 
 pub rect_at-requires : goal.rect_at-requires
 rect_at-requires c = has_numbers _ _ c.loop-k-test.true
@@ -36,21 +36,13 @@ returns-then-not-is_inside c =
     sym (every_fails (count a.rects.now) (λ j. inside a.w a.h (rect_at a.rects.now j)) c.loop-k.k c.loop-k-test.true
     (sym (asked a.w a.h c.loop-k.k a.rects.now c.is_inside.ensures c.rect_at.ensures) ∙ c.if-not-is_inside.true))
 
-pub overflow_add-k : goal.overflow_add-k
-overflow_add-k c = omega (arith, c.loop-k-test.true, c.well_formed.0.0)
-
-pub loop-k-smaller : goal.loop-k-smaller
-loop-k-smaller c = omega (arith, c.loop-k-test.true)
-
 pub loop-k-preserved : goal.loop-k-preserved
 loop-k-preserved c =
-    let a = c.args in (
-      omega (arith, c.loop-k-test.true),
-      more a.w a.h c.loop-k.k a.rects.now c.loop-k.invariant.1
-          (asked a.w a.h c.loop-k.k a.rects.now c.is_inside.ensures c.rect_at.ensures) c.if-not-is_inside.false,
-    )
+    let a = c.args in
+    more a.w a.h c.loop-k.k a.rects.now c.loop-k.invariant
+    (asked a.w a.h c.loop-k.k a.rects.now c.is_inside.ensures c.rect_at.ensures) c.if-not-is_inside.false
 
 pub returns : goal.returns
 returns c =
-    let end : c.loop-k.k ≡ count c.args.rects.now = omega (arith, c.loop-k.invariant.0, c.loop-k-test.false) in
-    sym (rw end at c.loop-k.invariant.1)
+    let end : c.loop-k.k ≡ count c.args.rects.now = omega arith in
+    sym (rw end at c.loop-k.invariant)

@@ -19,13 +19,13 @@ entry_at-down-requires c =
 pub loop-y-init : goal.loop-y-init
 loop-y-init c =
     let a = c.args in
-    (omega arith, rows_none a.sides.pw (pixel_in a.sides a.level.now a.shear.now a.shear_x.now) (PageColumns a.x (a.x + 1)) a.y0 a.out.now)
+    rows_none a.sides.pw (pixel_in a.sides a.level.now a.shear.now a.shear_x.now) (PageColumns a.x (a.x + 1)) a.y0 a.out.now
 
 -- the row is one of the page, and the raster is still as long
 in_page : (c : In-loop-y) → (c.loop-y.y < c.args.sides.ph) × PageLong c.args.sides c.loop-y.out
 in_page c =
     let pre = c.requires in
-    (omega (arith, c.loop-y-test.true, pre.1.1.1), c.loop-y.invariant.1.long ∙ pre.1.0)
+    (omega (arith, c.loop-y-test.true, pre.1.1.1), c.loop-y.invariant.long ∙ pre.1.0)
 
 pub place_of-requires : goal.place_of-requires
 place_of-requires c =
@@ -60,12 +60,6 @@ overflow_add-out c = omega (arith, room (goal.at.overflow_add-out c).In-loop-y)
 pub bounds-out-y : goal.bounds-out-y
 bounds-out-y c = omega (arith, room (goal.at.bounds-out-y c).In-loop-y)
 
-pub overflow_add-y : goal.overflow_add-y
-overflow_add-y c = omega (arith, c.loop-y-test.true)
-
-pub loop-y-smaller : goal.loop-y-smaller
-loop-y-smaller c = omega (arith, c.loop-y-test.true)
-
 pub loop-y-preserved : goal.loop-y-preserved
 loop-y-preserved c =
     let a = c.args in
@@ -73,12 +67,9 @@ loop-y-preserved c =
     let y = c.loop-y.y in
     let page = in_page (goal.at.loop-y-preserved c).In-loop-y in
     let written = pixel_shows a.sides a.level.now a.shear.now a.shear_x.now pre.0 c.loop-y.out page.1 y page.0 a.x pre.1.1.0 _ (ap (λ (i : ℕ). get_or a.level.now i 0) (place_is (goal.at.loop-y-preserved c).After-place_of)) (y * a.sides.pw + a.x) refl in
-    (omega (arith, c.loop-y.invariant.0), rows_then a.sides.pw (pixel_in a.sides a.level.now a.shear.now a.shear_x.now) (PageColumns a.x (a.x + 1)) a.y0 y (y + 1) c.loop-y.invariant.1 written)
-
-pub shape_of-out : goal.shape_of-out
-shape_of-out c = c.loop-y.invariant.1.long
+    rows_then a.sides.pw (pixel_in a.sides a.level.now a.shear.now a.shear_x.now) (PageColumns a.x (a.x + 1)) a.y0 y (y + 1) c.loop-y.invariant written
 
 pub returns : goal.returns
 returns c =
     let a = c.args in
-    rows_fewer a.sides.pw (pixel_in a.sides a.level.now a.shear.now a.shear_x.now) (PageColumns a.x (a.x + 1)) a.y0 a.y1 c.loop-y.y c.loop-y-test.false c.loop-y.invariant.1
+    rows_fewer a.sides.pw (pixel_in a.sides a.level.now a.shear.now a.shear_x.now) (PageColumns a.x (a.x + 1)) a.y0 a.y1 c.loop-y.y c.loop-y-test.false c.loop-y.invariant

@@ -1,10 +1,7 @@
 -- `unlevelling::unlevel_column` meets its contract: in the rows from y0 up to y the column is back.
-use Prim.Native.Nat.{◌+◌, ◌-◌, ◌≤◌}
+use Prim.Native.Nat.{◌+◌}
 use Rattle.unlevelling.specs.Steps.{BackArea, PageColumns}
 use Rattle.unlevelling.proofs.unlevel_column.Given as goal
 
 abbrev pub invariant-loop-y : goal.invariant-loop-y
-invariant-loop-y l = (l.y0 ≤ l.y) × BackArea l.sides l.level l.shear l.shear_x (PageColumns l.x (l.x + 1)) l.y0 l.y l.initial.out l.out
-
-abbrev pub decreases-loop-y : goal.decreases-loop-y
-decreases-loop-y l = l.y1 - l.y
+invariant-loop-y l = BackArea l.sides l.level l.shear l.shear_x (PageColumns l.x (l.x + 1)) l.y0 l.y l.initial.out l.out

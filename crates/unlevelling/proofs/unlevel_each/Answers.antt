@@ -16,19 +16,10 @@ unlevel_column-requires c =
     let pre = c.requires in
     (pre.0, (c.loop-x.invariant.long ∙ pre.1.0, (omega (arith, c.loop-x-test.true, pre.1.1.0), pre.1.1.1)))
 
-pub overflow_add-x : goal.overflow_add-x
-overflow_add-x c = omega (arith, c.loop-x-test.true)
-
-pub loop-x-smaller : goal.loop-x-smaller
-loop-x-smaller c = omega (arith, c.loop-x-test.true)
-
 pub loop-x-preserved : goal.loop-x-preserved
 loop-x-preserved c =
     let a = c.args in
     columns_then a.sides.pw (pixel_in a.sides a.level.now a.shear.now a.shear_x.now) (λ _. 0) a.y0 a.y1 a.from c.loop-x.x (c.loop-x.x + 1) c.loop-x.invariant c.unlevel_column.ensures
-
-pub shape_of-out : goal.shape_of-out
-shape_of-out c = c.loop-x.invariant.long
 
 pub returns : goal.returns
 returns c = holds_in c.loop-x.invariant (λ x y l h. (h.0, (h.1.0, omega (arith, c.loop-x-test.false, h.1.1))))

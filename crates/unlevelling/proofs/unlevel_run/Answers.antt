@@ -20,13 +20,13 @@ entry_at-down-requires c =
 pub loop-y-init : goal.loop-y-init
 loop-y-init c =
     let a = c.args in
-    (omega arith, rows_none a.sides.pw (pixel_in a.sides a.level.now a.shear.now a.shear_x.now) (PageColumns a.from a.to) a.y0 a.out.now)
+    rows_none a.sides.pw (pixel_in a.sides a.level.now a.shear.now a.shear_x.now) (PageColumns a.from a.to) a.y0 a.out.now
 
 -- the row is one of the page, and the raster is still as long
 in_page : (c : In-loop-y) → (c.loop-y.y < c.args.sides.ph) × PageLong c.args.sides c.loop-y.out
 in_page c =
     let pre = c.requires in
-    (omega (arith, c.loop-y-test.true, pre.1.1.1), c.loop-y.invariant.1.long ∙ pre.1.0)
+    (omega (arith, c.loop-y-test.true, pre.1.1.1), c.loop-y.invariant.long ∙ pre.1.0)
 
 -- its columns are the page's
 columns : (c : In-loop-y) → let a = c.args in (a.from < a.to) × ((a.from < a.sides.pw) × (a.to ≤ a.sides.pw))
@@ -53,7 +53,7 @@ room c =
     let a = c.args in
     let pre = c.requires in
     let y = c.loop-y.y in
-    let page : (y < a.sides.ph) × PageLong a.sides c.loop-y.out = (omega (arith, c.loop-y-test.true, pre.1.1.1), c.loop-y.invariant.1.long ∙ pre.1.0) in
+    let page : (y < a.sides.ph) × PageLong a.sides c.loop-y.out = (omega (arith, c.loop-y-test.true, pre.1.1.1), c.loop-y.invariant.long ∙ pre.1.0) in
     let on = run_on_page a.sides a.level.now a.shear.now a.shear_x.now pre.0 c.loop-y.out page.1 y page.0 a.from a.to pre.1.1.0 in
     (omega (arith, start_is c, run_within a.sides a.level.now a.shear.now a.shear_x.now pre.0 c.loop-y.out page.1 y page.0 a.from a.to pre.1.1.0), ((place_within a.sides a.level.now a.shear.now a.shear_x.now pre.0 a.from y on.0 page.0).1, page_row a.sides a.level.now a.shear.now a.shear_x.now pre.0 c.loop-y.out page.1 y page.0))
 
@@ -72,23 +72,17 @@ overflow_add-row c = omega (arith, room (goal.at.overflow_add-row c).After-place
 pub overflow_add-row-in-loop-y : goal.overflow_add-row-in-loop-y
 overflow_add-row-in-loop-y c = omega (arith, room (goal.at.overflow_add-row-in-loop-y c).After-place_of-start, columns (goal.at.overflow_add-row-in-loop-y c).In-loop-y)
 
-pub slice_bounds-copy-count : goal.slice_bounds-copy-count
-slice_bounds-copy-count c = omega (arith, (columns (goal.at.slice_bounds-copy-count c).In-loop-y).0)
+pub slice_bounds-copy_from_slice-count : goal.slice_bounds-copy_from_slice-count
+slice_bounds-copy_from_slice-count c = omega (arith, (columns (goal.at.slice_bounds-copy_from_slice-count c).In-loop-y).0)
 
-pub slice_bounds-copy-start : goal.slice_bounds-copy-start
-slice_bounds-copy-start c = omega (arith, (columns (goal.at.slice_bounds-copy-start c).In-loop-y).0)
+pub slice_bounds-copy_from_slice-start : goal.slice_bounds-copy_from_slice-start
+slice_bounds-copy_from_slice-start c = omega (arith, (columns (goal.at.slice_bounds-copy_from_slice-start c).In-loop-y).0)
 
-pub slice_bounds-copy-end : goal.slice_bounds-copy-end
-slice_bounds-copy-end c = omega (arith, room (goal.at.slice_bounds-copy-end c).After-place_of-start, columns (goal.at.slice_bounds-copy-end c).In-loop-y)
+pub slice_bounds-copy_from_slice-end : goal.slice_bounds-copy_from_slice-end
+slice_bounds-copy_from_slice-end c = omega (arith, room (goal.at.slice_bounds-copy_from_slice-end c).After-place_of-start, columns (goal.at.slice_bounds-copy_from_slice-end c).In-loop-y)
 
-pub slice_bounds-copy-end-in-loop-y : goal.slice_bounds-copy-end-in-loop-y
-slice_bounds-copy-end-in-loop-y c = omega (arith, room (goal.at.slice_bounds-copy-end-in-loop-y c).After-place_of-start)
-
-pub overflow_add-y : goal.overflow_add-y
-overflow_add-y c = omega (arith, c.loop-y-test.true)
-
-pub loop-y-smaller : goal.loop-y-smaller
-loop-y-smaller c = omega (arith, c.loop-y-test.true)
+pub slice_bounds-copy_from_slice-end-in-loop-y : goal.slice_bounds-copy_from_slice-end-in-loop-y
+slice_bounds-copy_from_slice-end-in-loop-y c = omega (arith, room (goal.at.slice_bounds-copy_from_slice-end-in-loop-y c).After-place_of-start)
 
 pub loop-y-preserved : goal.loop-y-preserved
 loop-y-preserved c =
@@ -101,12 +95,9 @@ loop-y-preserved c =
     let n = y * a.sides.pw + a.to - s in
     let m = start + (a.to - a.from) - start in
     let written = run_shows a.sides a.level.now a.shear.now a.shear_x.now pre.0 c.loop-y.out page.1 y page.0 a.from a.to pre.1.1.0 s n m start refl (omega arith) (omega arith) (start_is (goal.at.loop-y-preserved c).After-place_of-start) in
-    (omega (arith, c.loop-y.invariant.0), rows_then a.sides.pw (pixel_in a.sides a.level.now a.shear.now a.shear_x.now) (PageColumns a.from a.to) a.y0 y (y + 1) c.loop-y.invariant.1 (rw c.copy.ensures written))
-
-pub shape_of-out : goal.shape_of-out
-shape_of-out c = c.loop-y.invariant.1.long
+    rows_then a.sides.pw (pixel_in a.sides a.level.now a.shear.now a.shear_x.now) (PageColumns a.from a.to) a.y0 y (y + 1) c.loop-y.invariant (rw c.copy_from_slice.ensures.after written)
 
 pub returns : goal.returns
 returns c =
     let a = c.args in
-    rows_fewer a.sides.pw (pixel_in a.sides a.level.now a.shear.now a.shear_x.now) (PageColumns a.from a.to) a.y0 a.y1 c.loop-y.y c.loop-y-test.false c.loop-y.invariant.1
+    rows_fewer a.sides.pw (pixel_in a.sides a.level.now a.shear.now a.shear_x.now) (PageColumns a.from a.to) a.y0 a.y1 c.loop-y.y c.loop-y-test.false c.loop-y.invariant

@@ -1,10 +1,6 @@
 -- `unlevelling::unlevel_run` meets its contract: in the rows from y0 up to y the run is back.
-use Prim.Native.Nat.{◌-◌, ◌≤◌}
 use Rattle.unlevelling.specs.Steps.{BackArea, PageColumns}
 use Rattle.unlevelling.proofs.unlevel_run.Given as goal
 
 abbrev pub invariant-loop-y : goal.invariant-loop-y
-invariant-loop-y l = (l.y0 ≤ l.y) × BackArea l.sides l.level l.shear l.shear_x (PageColumns l.from l.to) l.y0 l.y l.initial.out l.out
-
-abbrev pub decreases-loop-y : goal.decreases-loop-y
-decreases-loop-y l = l.y1 - l.y
+invariant-loop-y l = BackArea l.sides l.level l.shear l.shear_x (PageColumns l.from l.to) l.y0 l.y l.initial.out l.out

@@ -2,7 +2,7 @@
 use mathlib.Core.Path.{◌≡◌, refl, ap}
 use mathlib.Core.Bool.{Bool}
 use mathlib.Core.List.{List}
-use Prim.Native.Nat.{ℕ, ◌+◌, ◌-◌, ◌≤◌, ◌<◌, zero-le}
+use Prim.Native.Nat.{ℕ, ◌+◌, ◌≤◌, ◌<◌, zero-le}
 use native.Mathlib.Omega.{arith}
 use lib.Dec.{eqb}
 use lib.ListN.{length, get_or, take}
@@ -16,26 +16,22 @@ module _ (numbers places : List ℕ) (number : ℕ) where
   is k = eqb (get_or numbers k 0) number
 
   pub record Progress (count i : ℕ) : Type 0 where
-    pub up_to : i ≤ length places
     pub low : count ≤ i
     pub counted : count ≡ length (keep is (take i places))
 
   pub begin : Progress 0 0
-  begin = record { up_to = zero-le; low = zero-le; counted = refl }
+  begin = record { low = zero-le; counted = refl }
 
   module _ {count i : ℕ} (P : Progress count i) (l : i < length places) where
     pub another : get_or numbers (get_or places i 0) 0 ≡ number → Progress (count + 1) (i + 1)
     another e =
         let t : one (is (get_or places i 0)) ≡ 1 = ap one (eq-eqb (get_or numbers (get_or places i 0) 0) number e) in
-        record { up_to = omega arith; low = omega (arith, P.low); counted = omega (arith, P.counted, kept_more is places i l) }
+        record { low = omega (arith, P.low); counted = omega (arith, P.counted, kept_more is places i l) }
 
     pub past : (get_or numbers (get_or places i 0) 0 ≡ number → ⊥) → Progress count (i + 1)
     past n =
         let t : one (is (get_or places i 0)) ≡ 0 = ap one (ne_eqb (get_or numbers (get_or places i 0) 0) number n) in
-        record { up_to = omega arith; low = omega (arith, P.low); counted = omega (arith, P.counted, kept_more is places i l) }
+        record { low = omega (arith, P.low); counted = omega (arith, P.counted, kept_more is places i l) }
 
-abbrev pub invariant-loop-i : goal.invariant-loop-i
-invariant-loop-i l = Progress l.numbers l.places l.number l.count l.i
-
-abbrev pub decreases-loop-i : goal.decreases-loop-i
-decreases-loop-i l = length l.places - l.i
+abbrev pub invariant-loop-place : goal.invariant-loop-place
+invariant-loop-place l = Progress l.numbers l.places l.number l.count l.place-index

@@ -1,5 +1,7 @@
 -- `shear_runs::columns::run_end` meets its contract: up to i all columns have the entry of column `from`.
-use mathlib.Core.Path.{sym, ◌∙◌}
+use mathlib.Core.Path.{◌≡◌, sym, ◌∙◌}
+use native.Mathlib.Omega.{arith}
+use lib.ListN.{length}
 use Rattle.shear_runs.proofs.Runs.{run_one, run_more}
 use Rattle.shear_runs.proofs.columns.run_end.Goals as goal
 
@@ -21,4 +23,6 @@ loop-i-preserved c =
     (c.loop-i.invariant.0, run_more a.table.now a.from c.loop-i.i c.loop-i.invariant.1 c.loop-i-test.true (sym c.entry_at.ensures ∙ c.if-entry_at-shear.false ∙ c.loop-i.invariant.0))
 
 pub returns : goal.returns
-returns c = c.loop-i.invariant.1
+returns c =
+    let end : c.loop-i.i ≡ length c.args.table.now = omega (arith, c.requires.0) in
+    rw end at c.loop-i.invariant.1
