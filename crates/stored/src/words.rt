@@ -2,6 +2,7 @@
 ghost use Rattle.std.specs.Prelude.{◌≤◌, ◌<◌, length, IfSome};
 
 // A text that is read word by word: what is left of it.
+#[derive(Drop)]
 pub struct Reader<'a> {
     rest: &'a [u8],
 }
