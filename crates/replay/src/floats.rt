@@ -1,39 +1,24 @@
 // The stored calls of float steps. No list has more than 128 floats.
-use stored::floats::{bits_of, bits_of_whole, float_of, read_floats};
-use stored::words;
-use stored::words::Word;
+use stored::floats::{bits_of, float_of};
+use stored::words::Reader;
 
-pub fn pairwise_sum(text: &[u8], at: usize) -> Word {
+pub fn pairwise_sum(reader: &mut Reader<'_>) -> u64 {
     let mut values = [0.0f64; 128];
-    let read = read_floats(text, words::read_word(text, at), &mut values);
-    let n = read.count;
-    Word {
-        value: bits_of(sums::sum::pairwise_sum(&values[..n])),
-        next: read.next,
-    }
+    let n = reader.list(&mut values, float_of);
+    bits_of(sums::sum::pairwise_sum(&values[..n]))
 }
 
-pub fn round_output(text: &[u8], at: usize) -> Word {
-    let x = words::read_word(text, at);
-    Word {
-        value: bits_of(rounding::round_output(float_of(x.value))),
-        next: x.next,
-    }
+pub fn round_output(reader: &mut Reader<'_>) -> u64 {
+    bits_of(rounding::round_output(float_of(reader.word())))
 }
 
-pub fn rounded_product(text: &[u8], at: usize) -> Word {
-    let a = words::read_word(text, at);
-    let b = words::read_word(text, a.next);
-    Word {
-        value: bits_of_whole(rounding::rounded_product(float_of(a.value), float_of(b.value))),
-        next: b.next,
-    }
+// A whole number, in two's complement.
+pub fn rounded_product(reader: &mut Reader<'_>) -> u64 {
+    let a = float_of(reader.word());
+    let b = float_of(reader.word());
+    rounding::rounded_product(a, b).cast_unsigned()
 }
 
-pub fn round(text: &[u8], at: usize) -> Word {
-    let x = words::read_word(text, at);
-    Word {
-        value: bits_of(rounding::round(float_of(x.value))),
-        next: x.next,
-    }
+pub fn round(reader: &mut Reader<'_>) -> u64 {
+    bits_of(rounding::round(float_of(reader.word())))
 }

@@ -1,7 +1,7 @@
 // Answers to `boxes`. Every list is lent whole.
 use crate::settings::Given;
 use std::io;
-use stored::{words, written};
+use stored::written;
 
 // Writes the number and the count of boxes, then their rectangles, marks and edge coverages.
 pub fn answer(rt: &impl Print, given: Given, glyphs: &[u32], ink: &[u8]) -> io::Result<()> {
@@ -20,8 +20,8 @@ pub fn answer(rt: &impl Print, given: Given, glyphs: &[u32], ink: &[u8]) -> io::
         &mut marks,
         &mut coverages,
     );
-    let count = words::at_most(a.count as u64, 16);
-    written::word(rt, a.number as u64)?;
+    let count = a.count.min(16);
+    written::word(rt, u64::from(a.number))?;
     written::word(rt, a.count as u64)?;
     written::wholes(rt, &rects, 4 * count)?;
     written::wholes(rt, &marks, count)?;

@@ -7,38 +7,43 @@ use layout::page::Levelled;
 use layout::sides::Sides;
 use rects::Rect;
 use std::io;
-use stored::{floats, words, written};
+use stored::words::Reader;
+use stored::{words, written};
 
-// Answers the call of this number that goes on at `at`, and returns the place past it.
-pub fn page(rt: &impl Print, text: &[u8], at: usize, call: u64) -> io::Result<usize> {
-    let given = stored::sides::read(text, at);
+#[derive(Clone, Copy)]
+pub enum Call {
+    LevelGray,
+    ToPage,
+    RectToPage,
+    Unlevel,
+}
+
+// Reads what the call is given, and answers it.
+pub fn page(rt: &impl Print, reader: &mut Reader<'_>, call: Call) -> io::Result<()> {
+    let sides = stored::sides::read(reader);
     let mut shear = [0i32; 64];
     let mut shear_x = [0i32; 64];
     let mut raster = [0u8; 256];
     let mut numbers = [0u32; 4];
-    let s = words::read_signed(text, words::read_word(text, given.next), &mut shear);
-    let x = words::read_signed(text, words::read_word(text, s.next), &mut shear_x);
-    let g = words::read_bytes(text, words::read_word(text, x.next), &mut raster);
-    let n = words::read_wholes(text, words::read_word(text, g.next), &mut numbers);
-    let columns = s.count;
-    let rows = x.count;
-    let pixels = g.count;
+    let columns = reader.list(&mut shear, words::signed_of);
+    let rows = reader.list(&mut shear_x, words::signed_of);
+    let pixels = reader.list(&mut raster, words::byte_of);
+    reader.list(&mut numbers, words::whole_of);
     answer(
         rt,
         call,
-        given.sides,
+        sides,
         &shear[..columns],
         &shear_x[..rows],
         &raster[..pixels],
         &numbers,
-    )?;
-    Ok(n.next)
+    )
 }
 
-// The numbers are the room for a raster, a place, or a rectangle. A raster is lent with 7 in it.
+// The numbers are the room for a raster, a place, or a rectangle.
 fn answer(
     rt: &impl Print,
-    call: u64,
+    call: Call,
     sides: Sides,
     shear: &[i32],
     shear_x: &[i32],
@@ -46,10 +51,14 @@ fn answer(
     numbers: &[u32; 4],
 ) -> io::Result<()> {
     match call {
-        10 => level_gray(rt, sides, shear, shear_x, raster, numbers[0], &mut [7; 256])?,
-        11 => to_page(rt, sides, shear, shear_x, Levelled(numbers[0], numbers[1]))?,
-        14 => unlevel(rt, sides, shear, shear_x, raster, numbers[0], &mut [7; 256])?,
-        _ => {
+        Call::LevelGray => write_raster(rt, numbers[0], |out| {
+            level_gray::level_gray(sides, raster, shear, shear_x, out)
+        })?,
+        Call::Unlevel => write_raster(rt, numbers[0], |out| {
+            unlevel::unlevel(sides, raster, shear, shear_x, out)
+        })?,
+        Call::ToPage => to_page(rt, sides, shear, shear_x, Levelled(numbers[0], numbers[1]))?,
+        Call::RectToPage => {
             let r = Rect {
                 x0: numbers[0],
                 y0: numbers[1],
@@ -62,36 +71,15 @@ fn answer(
     written::end(rt)
 }
 
-// Writes the number and every byte of a raster of `room` bytes, the front of `out`.
-fn level_gray(
-    rt: &impl Print,
-    sides: Sides,
-    shear: &[i32],
-    shear_x: &[i32],
-    gray: &[u8],
-    room: u32,
-    out: &mut [u8],
-) -> io::Result<()> {
-    let n = words::at_most(room as u64, out.len());
-    let number = level_gray::level_gray(sides, gray, shear, shear_x, &mut out[..n]);
-    written::word(rt, number as u64)?;
-    written::bytes(rt, out, n)
-}
-
-// The same of a page raster.
-fn unlevel(
-    rt: &impl Print,
-    sides: Sides,
-    shear: &[i32],
-    shear_x: &[i32],
-    level: &[u8],
-    room: u32,
-    out: &mut [u8],
-) -> io::Result<()> {
-    let n = words::at_most(room as u64, out.len());
-    let number = unlevel::unlevel(sides, level, shear, shear_x, &mut out[..n]);
-    written::word(rt, number as u64)?;
-    written::bytes(rt, out, n)
+// Writes the number that `level` answers, and every byte of the raster of `room` bytes, which is lent to it with 7 in it.
+fn write_raster<F: FnOnce(&mut [u8]) -> u32>(rt: &impl Print, room: u32, level: F) -> io::Result<()>
+    requires { F.IsAlwaysCallable level }
+{
+    let mut out = [7u8; 256];
+    let n = (room as usize).min(256);
+    let number = level(&mut out[..n]);
+    written::word(rt, u64::from(number))?;
+    written::bytes(rt, &out, n)
 }
 
 // Writes the number, and the place or 0 and 0.
@@ -110,9 +98,9 @@ fn to_page(
 }
 
 fn write_place(rt: &impl Print, number: u32, x: i64, y: i64) -> io::Result<()> {
-    written::word(rt, number as u64)?;
-    written::word(rt, floats::bits_of_whole(x))?;
-    written::word(rt, floats::bits_of_whole(y))
+    written::word(rt, u64::from(number))?;
+    written::word(rt, x.cast_unsigned())?;
+    written::word(rt, y.cast_unsigned())
 }
 
 // Writes the number, and the rectangle or four times 0.
@@ -131,6 +119,6 @@ fn rect_to_page(
 }
 
 fn write_area(rt: &impl Print, number: u32, area: &[u32]) -> io::Result<()> {
-    written::word(rt, number as u64)?;
+    written::word(rt, u64::from(number))?;
     written::wholes(rt, area, 4)
 }

@@ -12,8 +12,8 @@
 #![tactic(auto)]
 
 use std::io;
-use stored::words::Word;
-use stored::{input, words};
+use stored::input;
+use stored::words::Reader;
 
 mod floats;
 mod glyphs;
@@ -30,35 +30,35 @@ fn main(rt: HostRuntime) -> io::Result<()> {
     replay(&rt, &text[..n])
 }
 
-// Answers call after call. A call takes a byte at least, so there are no more calls than bytes.
+// Answers call after call, up to the end or to a number that no call has. A call takes a byte at least, so there are
+// no more calls than bytes.
 fn replay(rt: &impl Print, text: &[u8]) -> io::Result<()> {
-    let mut at = 0;
+    let mut reader = Reader::new(text);
     for _ in 0..text.len() {
-        if at < text.len() {
-            at = answer(rt, text, at)?;
+        if reader.is_at_end() {
+            return Ok(());
+        }
+        match reader.word() {
+            1 => print(rt, floats::pairwise_sum(&mut reader))?,
+            2 => print(rt, floats::round_output(&mut reader))?,
+            3 => print(rt, floats::rounded_product(&mut reader))?,
+            4 => print(rt, floats::round(&mut reader))?,
+            5 => pages::page(rt, &mut reader, pages::Call::Segments)?,
+            6 => pages::page(rt, &mut reader, pages::Call::Tables)?,
+            7 => pages::page(rt, &mut reader, pages::Call::Boxes)?,
+            8 => pages::page(rt, &mut reader, pages::Call::BoxGrids)?,
+            9 => pages::page(rt, &mut reader, pages::Call::Validate)?,
+            10 => levelled::page(rt, &mut reader, levelled::Call::LevelGray)?,
+            11 => levelled::page(rt, &mut reader, levelled::Call::ToPage)?,
+            12 => levelled::page(rt, &mut reader, levelled::Call::RectToPage)?,
+            14 => levelled::page(rt, &mut reader, levelled::Call::Unlevel)?,
+            _ => return Ok(()),
         }
     }
     Ok(())
 }
 
-// Answers the call at `at`, and returns the place of the next one.
-fn answer(rt: &impl Print, text: &[u8], at: usize) -> io::Result<usize> {
-    let call = words::read_word(text, at);
-    let number = call.value;
-    let next = call.next;
-    match number {
-        1 => print(rt, floats::pairwise_sum(text, next)),
-        2 => print(rt, floats::round_output(text, next)),
-        3 => print(rt, floats::rounded_product(text, next)),
-        4 => print(rt, floats::round(text, next)),
-        5..=9 => pages::page(rt, text, next, number),
-        10..=12 | 14 => levelled::page(rt, text, next, number),
-        _ => Ok(text.len()),
-    }
-}
-
-// Writes an answer on a line of its own, and returns the place past the call.
-fn print(rt: &impl Print, answer: Word) -> io::Result<usize> {
-    println!(rt; "{:016x}", answer.value)?;
-    Ok(answer.next)
+// Writes an answer on a line of its own.
+fn print(rt: &impl Print, answer: u64) -> io::Result<()> {
+    println!(rt; "{answer:016x}")
 }

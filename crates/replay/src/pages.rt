@@ -5,19 +5,26 @@ use crate::settings::Given;
 use crate::{glyphs, piece_sets, rulings, settings, squares};
 use std::io;
 use stored::words;
+use stored::words::Reader;
 
-// Answers the call of this number that goes on at `at`, and returns the place past it.
-pub fn page(rt: &impl Print, text: &[u8], at: usize, call: u64) -> io::Result<usize> {
-    let given = settings::read(text, at);
+#[derive(Clone, Copy)]
+pub enum Call {
+    Segments,
+    Tables,
+    Boxes,
+    BoxGrids,
+    Validate,
+}
+
+// Reads what the call is given, and answers it.
+pub fn page(rt: &impl Print, reader: &mut Reader<'_>, call: Call) -> io::Result<()> {
+    let given = settings::read(reader);
     let mut rects = [0u32; 64];
     let mut directions = [0u32; 20];
     let mut bytes = [0u8; 256];
-    let r = words::read_wholes(text, words::read_word(text, given.next), &mut rects);
-    let d = words::read_wholes(text, words::read_word(text, r.next), &mut directions);
-    let b = words::read_bytes(text, words::read_word(text, d.next), &mut bytes);
-    let numbers = r.count;
-    let rulings = d.count;
-    let pixels = b.count;
+    let numbers = reader.list(&mut rects, words::whole_of);
+    let rulings = reader.list(&mut directions, words::whole_of);
+    let pixels = reader.list(&mut bytes, words::byte_of);
     answer(
         rt,
         call,
@@ -25,23 +32,22 @@ pub fn page(rt: &impl Print, text: &[u8], at: usize, call: u64) -> io::Result<us
         &rects[..numbers],
         &directions[..rulings],
         &bytes[..pixels],
-    )?;
-    Ok(b.next)
+    )
 }
 
 fn answer(
     rt: &impl Print,
-    call: u64,
+    call: Call,
     given: Given,
     rects: &[u32],
     directions: &[u32],
     bytes: &[u8],
 ) -> io::Result<()> {
     match call {
-        5 => piece_sets::answer(rt, given, rects, bytes),
-        6 => rulings::answer(rt, given, rects, directions),
-        7 => glyphs::answer(rt, given, rects, bytes),
-        8 => squares::answer(rt, given, rects),
-        _ => settings::answer(rt, given),
+        Call::Segments => piece_sets::answer(rt, given, rects, bytes),
+        Call::Tables => rulings::answer(rt, given, rects, directions),
+        Call::Boxes => glyphs::answer(rt, given, rects, bytes),
+        Call::BoxGrids => squares::answer(rt, given, rects),
+        Call::Validate => settings::answer(rt, given),
     }
 }

@@ -1,7 +1,7 @@
 // Answers to `segments`. Every list is lent whole.
 use crate::settings::Given;
 use std::io;
-use stored::{words, written};
+use stored::written;
 
 // Writes the number and the count of rulings, then their rectangles, directions, contrasts and ends,
 // and the n members.
@@ -16,8 +16,8 @@ fn write_rulings(
     ends: &[u32; 16],
     members: &[u32; 16],
 ) -> io::Result<()> {
-    let count = words::at_most(rulings as u64, 16);
-    written::word(rt, number as u64)?;
+    let count = rulings.min(16);
+    written::word(rt, u64::from(number))?;
     written::word(rt, rulings as u64)?;
     written::wholes(rt, rects, 4 * count)?;
     written::wholes(rt, directions, count)?;

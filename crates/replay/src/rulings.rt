@@ -1,7 +1,7 @@
 // Answers to `tables`. Every list is lent whole.
 use crate::settings::Given;
 use std::io;
-use stored::{words, written};
+use stored::written;
 
 // Writes the number and the count of tables, and for each its set's number, rectangle, rows, columns,
 // rulings and share, list by list.
@@ -16,8 +16,8 @@ fn write_tables(
     rulings: &[u32; 16],
     shares: &[f64; 16],
 ) -> io::Result<()> {
-    let count = words::at_most(tables as u64, 16);
-    written::word(rt, number as u64)?;
+    let count = tables.min(16);
+    written::word(rt, u64::from(number))?;
     written::word(rt, tables as u64)?;
     written::wholes(rt, numbers, count)?;
     written::wholes(rt, bounds, 4 * count)?;

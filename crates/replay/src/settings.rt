@@ -2,9 +2,9 @@
 // sides 0.
 use params::settings::RulingsParams;
 use std::io;
+use stored::words::Reader;
 use stored::{floats, words, written};
 
-// What a call is given, and the place past that.
 #[derive(Clone, Copy)]
 pub struct Given {
     pub w: usize,
@@ -12,23 +12,15 @@ pub struct Given {
     pub dpi: u16,
     pub xheight: f64,
     pub p: RulingsParams,
-    pub next: usize,
 }
 
-pub fn read(text: &[u8], at: usize) -> Given {
-    let w = words::read_word(text, at);
-    let h = words::read_word(text, w.next);
-    let dpi = words::read_word(text, h.next);
-    let xheight = words::read_word(text, dpi.next);
-    let settings = stored::settings::read(text, xheight.next);
-    let p = settings.p;
+pub fn read(reader: &mut Reader<'_>) -> Given {
     Given {
-        w: w.value as usize,
-        h: h.value as usize,
-        dpi: words::short_of(dpi.value),
-        xheight: floats::float_of(xheight.value),
-        p,
-        next: settings.next,
+        w: reader.word() as usize,
+        h: reader.word() as usize,
+        dpi: words::short_of(reader.word()),
+        xheight: floats::float_of(reader.word()),
+        p: stored::settings::read(reader),
     }
 }
 
@@ -37,7 +29,7 @@ pub fn read(text: &[u8], at: usize) -> Given {
 pub fn answer(rt: &impl Print, given: Given) -> io::Result<()> {
     let accepted = params::validate::validate(given.p) == 0;
     let number = params::validate::missed_by_settings(given.p);
-    written::word(rt, if accepted { 1 } else { 0 })?;
-    written::word(rt, number as u64)?;
+    written::word(rt, u64::from(accepted))?;
+    written::word(rt, u64::from(number))?;
     written::end(rt)
 }

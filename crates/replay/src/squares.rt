@@ -23,7 +23,7 @@ pub fn answer(rt: &impl Print, given: Given, rects: &[u32]) -> io::Result<()> {
         &mut [0; 16],
     );
     let n = if a.number == 0 { rects.len() / 4 } else { 0 };
-    written::word(rt, a.number as u64)?;
+    written::word(rt, u64::from(a.number))?;
     written::word(rt, a.grids as u64)?;
     written::wholes(rt, &numbers, a.grids)?;
     written::word(rt, a.sets as u64)?;

@@ -9,7 +9,8 @@
 #![tactic(auto)]
 
 use std::io;
-use stored::{input, words};
+use stored::input;
+use stored::words::Reader;
 
 mod answers;
 mod finding_rows;
@@ -21,23 +22,15 @@ fn main(rt: HostRuntime) -> io::Result<()> {
     replay(&rt, &text[..n])
 }
 
-// Answers page after page. A page takes a byte at least, so there are no more pages than bytes.
+// Answers page after page, up to the end or to a number that is not `detect`'s. A page takes a byte at least, so there
+// are no more pages than bytes.
 fn replay(rt: &impl Print, text: &[u8]) -> io::Result<()> {
-    let mut at = 0;
+    let mut reader = Reader::new(text);
     for _ in 0..text.len() {
-        if at < text.len() {
-            at = answer(rt, text, at)?;
+        if reader.is_at_end() || reader.word() != 13 {
+            return Ok(());
         }
+        pages::page(rt, &mut reader)?;
     }
     Ok(())
-}
-
-// Answers the page at `at`, and returns the place of the next one.
-fn answer(rt: &impl Print, text: &[u8], at: usize) -> io::Result<usize> {
-    let call = words::read_word(text, at);
-    if call.value == 13 {
-        pages::page(rt, text, call.next)
-    } else {
-        Ok(text.len())
-    }
 }

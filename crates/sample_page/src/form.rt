@@ -1,6 +1,4 @@
 // The page, and what is given beside it.
-ghost use Rattle.std.specs.Prelude.{◌≤◌};
-
 use crate::{settings, shown};
 use layout::sides::Sides;
 use params::settings::FusionParams;
@@ -30,57 +28,48 @@ fn read(rt: &impl Print, gray: &[u8; 360]) -> io::Result<()> {
 }
 
 // The page, # for ink and - for the fold.
-fn draw(gray: &mut [u8; 360]) {
-    row(gray, 0, b"#####.#####...######");
-    row(gray, 20, b"#.........#...#....#");
-    row(gray, 40, b"#.........#...#....#");
-    row(gray, 60, b"#.........#...#....#");
-    row(gray, 80, b"###########...#....#");
-    row(gray, 100, b"#.........#...######");
-    row(gray, 120, b"#.........#.........");
-    row(gray, 140, b"#.........#.........");
-    row(gray, 160, b"###########...######");
-    row(gray, 180, b"..............##...#");
-    row(gray, 200, b"..............#.#..#");
-    row(gray, 220, b"..............#..#.#");
-    row(gray, 240, b"..............#...##");
-    row(gray, 260, b"..............######");
-    row(gray, 300, b"------------........");
-    row(gray, 320, b"............--------");
-}
+const PAGE: [&[u8; 20]; 18] = [
+    b"#####.#####...######",
+    b"#.........#...#....#",
+    b"#.........#...#....#",
+    b"#.........#...#....#",
+    b"###########...#....#",
+    b"#.........#...######",
+    b"#.........#.........",
+    b"#.........#.........",
+    b"###########...######",
+    b"..............##...#",
+    b"..............#.#..#",
+    b"..............#..#.#",
+    b"..............#...##",
+    b"..............######",
+    b"....................",
+    b"------------........",
+    b"............--------",
+    b"....................",
+];
 
-// Draws a row of 20 places, from place `at` on.
-fn row(gray: &mut [u8; 360], at: usize, places: &[u8; 20])
-    requires { at ≤ 340 }
-{
-    let mut x = 0;
-    while x < 20 {
-        gray[at + x] = grey_of(places[x]);
-        x += 1;
+fn draw(gray: &mut [u8; 360]) {
+    for (places, row) in gray.chunks_mut(20).zip(PAGE) {
+        for (place, mark) in places.iter_mut().zip(row) {
+            *place = grey_of(*mark);
+        }
     }
 }
 
-fn grey_of(place: u8) -> u8 {
-    if place == 35 {
-        40
-    } else if place == 45 {
-        235
-    } else {
-        255
+fn grey_of(mark: u8) -> u8 {
+    match mark {
+        b'#' => 40,
+        b'-' => 235,
+        _ => 255,
     }
 }
 
 // Turns the levelled picture into its ink: what is darker than 128.
 fn mark_ink(ink: &mut [u8]) {
-    let mut k = 0;
-    while k < ink.len() {
-        ink[k] = ink_of(ink[k]);
-        k += 1;
+    for place in ink.iter_mut() {
+        *place = u8::from(*place < 128);
     }
-}
-
-fn ink_of(grey: u8) -> u8 {
-    if grey < 128 { 1 } else { 0 }
 }
 
 fn sides() -> Sides {

@@ -32,6 +32,6 @@ fn halves(rt: &impl Print) -> io::Result<()> {
     show(
         rt,
         "2.5 rounds to 3, -2.5 to -3",
-        (rounding::round(2.5) == 3.0) & (rounding::round(-2.5) == -3.0),
+        rounding::round(2.5) == 3.0 && rounding::round(-2.5) == -3.0,
     )
 }

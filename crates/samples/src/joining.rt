@@ -1,5 +1,6 @@
 // Two slips about pieces that touch, at an x-height of 1, so that each setting is its limit.
 use crate::{settings, show};
+use params::settings::RulingsParams;
 use std::io;
 
 pub fn run(rt: &impl Print) -> io::Result<()> {
@@ -16,7 +17,7 @@ fn centres_stay_doubled(rt: &impl Print) -> io::Result<()> {
     show(
         rt,
         "across limit 2: row 5 and rows 7..8 are two rulings",
-        (rulings == 2) & (rects[3] == 5) & (rects[7] == 8),
+        rulings == 2 && rects[3] == 5 && rects[7] == 8,
     )
 }
 
@@ -30,7 +31,7 @@ fn chains_are_followed(rt: &impl Print) -> io::Result<()> {
     show(
         rt,
         "gap limit 10: four pieces in a chain are one ruling",
-        (rulings == 1) & (rects[0] == 0) & (rects[2] == 69),
+        rulings == 1 && rects[0] == 0 && rects[2] == 69,
     )
 }
 
@@ -61,9 +62,11 @@ pub fn join(
     rects: &mut [u32; 16],
     contrasts: &mut [f64; 4],
 ) -> usize {
-    let mut p = settings::settings();
-    p.merge_across_xh = across;
-    p.merge_gap_xh = gap;
+    let p = RulingsParams {
+        merge_across_xh: across,
+        merge_gap_xh: gap,
+        ..settings::settings()
+    };
     let answer = segments::segments::segments(
         raster,
         w,

@@ -1,5 +1,6 @@
 // Three slips about tables and the free list, at an x-height of 1, so that each setting is its limit.
 use crate::{settings, show};
+use params::settings::RulingsParams;
 use std::io;
 
 pub fn run(rt: &impl Print) -> io::Result<()> {
@@ -16,7 +17,7 @@ fn centres_stay_doubled(rt: &impl Print) -> io::Result<()> {
     show(
         rt,
         "a row up to 10 and columns 10..11 do not touch",
-        (found.number == 0) & (found.sets == 2),
+        found.number == 0 && found.sets == 2,
     )
 }
 
@@ -28,7 +29,7 @@ fn lines_go_on(rt: &impl Print) -> io::Result<()> {
     show(
         rt,
         "line limit 3: horizontals 0, 3, 6 are one line, and no table",
-        (found.sets == 1) & (found.tables == 0) & (found.free == 5),
+        found.sets == 1 && found.tables == 0 && found.free == 5,
     )
 }
 
@@ -37,19 +38,20 @@ fn free_list_by_sets(rt: &impl Print) -> io::Result<()> {
     let rects = [0, 0, 10, 0, 0, 50, 10, 50, 0, 70, 10, 70, 5, 0, 5, 10];
     let mut free = [9; 5];
     let found = find(0.0, &rects, &[0, 0, 0, 1], &mut free);
-    let by_sets = (free[0] == 0) & (free[1] == 3) & (free[2] == 1) & (free[3] == 2);
     show(
         rt,
         "rulings 0 and 3 touch, 1 and 2 stand alone: free list 0, 3, 1, 2",
-        (found.free == 4) & by_sets,
+        found.free == 4 && free[..4] == [0, 3, 1, 2],
     )
 }
 
 // What `tables` answers for up to five rulings with a line limit and no tolerance; the free list goes
 // into `free`.
 fn find(line_limit: f64, rects: &[u32], directions: &[u32], free: &mut [u32; 5]) -> tables::Answer {
-    let mut p = settings::settings();
-    p.line_cluster_xh = line_limit;
+    let p = RulingsParams {
+        line_cluster_xh: line_limit,
+        ..settings::settings()
+    };
     tables::tables(
         1.0,
         p,

@@ -1,13 +1,13 @@
 // What is found on a small page, by value.
-ghost use Rattle.std.specs.Prelude.{◌≤◌};
-
 use crate::given::Given;
 use crate::lend;
+use page::answer;
+use page::answer::Answer;
 
-// The number and the counts, as `counts` has them, and every list of the answer, whole.
+// The answer, and every list that it speaks of, whole.
 #[derive(Clone, Copy)]
 pub struct Found {
-    pub counts: [usize; 11],
+    pub answer: Answer,
     pub levelled: [u8; 1024],
     pub rects: [u32; 64],
     pub boxes: [u32; 64],
@@ -59,7 +59,6 @@ pub fn detect(
     glyphs: &[u32],
     room: usize,
 ) -> Found {
-    let mut counts = [0usize; 11];
     let mut levelled = [7u8; 1024];
     let mut rects = [0u32; 64];
     let mut boxes = [0u32; 64];
@@ -105,7 +104,8 @@ pub fn detect(
     let mut listed_ends = [0u32; 16];
     let mut keys = [0u64; 16];
     let mut box_keys = [0u64; 16];
-    let n = at_most(room, 1024);
+    let n = room.min(1024);
+    let mut answer = answer::refused(0);
     lend::lend(
         given,
         gray,
@@ -159,10 +159,10 @@ pub fn detect(
         &mut listed_ends,
         &mut keys,
         &mut box_keys,
-        &mut counts,
+        &mut answer,
     );
     Found {
-        counts,
+        answer,
         levelled,
         rects,
         boxes,
@@ -201,10 +201,4 @@ pub fn detect(
         second_llrs,
         lengths,
     }
-}
-
-fn at_most(n: usize, room: usize) -> usize
-    ensures { result ≤ room }
-{
-    if n < room { n } else { room }
 }

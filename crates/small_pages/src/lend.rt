@@ -1,9 +1,10 @@
 // The lists of a page, lent to `detect` in its bundles.
-use crate::counts;
 use crate::given::Given;
+use page::answer::Answer;
 
-// Reads the page into the lists, and its answer into `counts`. An array of lent lists has one lifetime, so all lists
-// are lent for one. The result names it, so that the lists are spent here; it holds nothing that isn't in `levelled`.
+// Reads the page into the lists, and what it answers into `answer`. An array of lent lists has one lifetime, so all
+// lists are lent for one. The result names it, so that the lists are spent here; it holds nothing that isn't in
+// `levelled`. The answer is no part of it: no proof covers a tuple or a struct with such an array.
 pub fn lend<'a>(
     given: Given,
     gray: &[u8],
@@ -57,7 +58,7 @@ pub fn lend<'a>(
     listed_ends: &'a mut [u32],
     keys: &'a mut [u64],
     box_keys: &'a mut [u64],
-    counts: &mut [usize; 11],
+    answer: &mut Answer,
 ) -> [&'a mut [u8]; 1] {
     let mut levelled_lent = bundles::one_of_bytes(levelled);
     let mut rects_lent = bundles::two(rects, boxes);
@@ -90,7 +91,7 @@ pub fn lend<'a>(
     let mut listed_ends_lent = bundles::one(listed_ends);
     let mut keys_lent = bundles::one_of_keys(keys);
     let mut box_keys_lent = bundles::one_of_keys(box_keys);
-    let answer = detect::detect(
+    *answer = detect::detect(
         given.sides,
         given.dpi,
         given.xheight,
@@ -125,6 +126,5 @@ pub fn lend<'a>(
         &mut keys_lent,
         &mut box_keys_lent,
     );
-    counts::write(answer, counts);
     levelled_lent
 }

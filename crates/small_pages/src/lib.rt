@@ -1,7 +1,6 @@
 // `detect` of a small page: its lists lie on the stack, and the answer is a value.
 #![tactic(auto)]
 
-pub mod counts;
 pub mod found;
 pub mod given;
 pub mod lend;

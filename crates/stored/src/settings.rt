@@ -1,32 +1,14 @@
 // The settings of stored calls: the 25 floats, then the five counts, each in the settings' order.
-use crate::words::Word;
+use crate::words::Reader;
 use crate::{floats, words};
 use params::settings::RulingsParams;
 
-// The settings, and the place past them.
-#[derive(Clone, Copy)]
-pub struct Settings {
-    pub p: RulingsParams,
-    pub next: usize,
-}
-
-pub fn read(text: &[u8], at: usize) -> Settings {
+pub fn read(reader: &mut Reader<'_>) -> RulingsParams {
     let mut floats = [0.0; 25];
     let mut counts = [0; 5];
-    let all_floats = Word {
-        value: 25,
-        next: at,
-    };
-    let read = floats::read_floats(text, all_floats, &mut floats);
-    let all_counts = Word {
-        value: 5,
-        next: read.next,
-    };
-    let behind = words::read_wholes(text, all_counts, &mut counts);
-    Settings {
-        p: settings_of(&floats, &counts),
-        next: behind.next,
-    }
+    reader.fill(&mut floats, floats::float_of);
+    reader.fill(&mut counts, words::whole_of);
+    settings_of(&floats, &counts)
 }
 
 fn settings_of(floats: &[f64; 25], counts: &[u32; 5]) -> RulingsParams {

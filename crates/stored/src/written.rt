@@ -1,4 +1,5 @@
 // Answers of several words: each in hex behind a space, all on one line.
+use crate::floats;
 use std::io;
 
 pub fn word(rt: &impl Print, value: u64) -> io::Result<()> {
@@ -9,34 +10,25 @@ pub fn end(rt: &impl Print) -> io::Result<()> {
     println!(rt)
 }
 
-// The first `n` entries, or all of them.
+// The first `n` entries, or all of them, each as the word that `of` makes of it.
+fn entries<T: Copy, F: Fn(T) -> u64>(rt: &impl Print, list: &[T], n: usize, of: F) -> io::Result<()>
+    requires { F.IsAlwaysCallable of }
+{
+    for x in list.iter().take(n) {
+        word(rt, of(*x))?;
+    }
+    Ok(())
+}
+
 pub fn wholes(rt: &impl Print, list: &[u32], n: usize) -> io::Result<()> {
-    for x in list.iter().take(n) {
-        word(rt, wide(*x))?;
-    }
-    Ok(())
+    entries(rt, list, n, u64::from)
 }
 
-fn wide(x: u32) -> u64 {
-    x as u64
-}
-
-// The same for bytes.
 pub fn bytes(rt: &impl Print, list: &[u8], n: usize) -> io::Result<()> {
-    for x in list.iter().take(n) {
-        word(rt, wide_byte(*x))?;
-    }
-    Ok(())
+    entries(rt, list, n, u64::from)
 }
 
-fn wide_byte(x: u8) -> u64 {
-    x as u64
-}
-
-// The bits of the first `n` floats, or of all of them.
+// The bits of floats.
 pub fn floats(rt: &impl Print, list: &[f64], n: usize) -> io::Result<()> {
-    for x in list.iter().take(n) {
-        word(rt, crate::floats::bits_of(*x))?;
-    }
-    Ok(())
+    entries(rt, list, n, floats::bits_of)
 }
