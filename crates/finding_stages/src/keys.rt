@@ -12,23 +12,25 @@ ghost use Rattle.page.specs.Steps.{Only, Kept};
 ghost use Rattle.finding_stages.specs.Steps.{FirstLong};
 
 use crate::first;
+use findings::sources::Scan;
 use layout::sides::Sides;
-use params::settings::RulingsParams;
+use params::settings::{FusionParams, RulingsParams};
 
 // From the front parts of the lists.
-fn first_keys_of(
+fn first_keys_of<'x>(
     sides: Sides,
-    shear: &[i32],
-    shear_x: &[i32],
+    shear: &'x [i32],
+    shear_x: &'x [i32],
     p: RulingsParams,
+    f: FusionParams,
     tables: usize,
     n: usize,
     free_count: usize,
     fold_count: usize,
-    bounds: &[u32],
-    rects: &[u32],
-    places: &[u32],
-    folds: &[u32],
+    bounds: &'x [u32],
+    rects: &'x [u32],
+    places: &'x [u32],
+    folds: &'x [u32],
     keys: &mut [u64],
 ) -> usize
     requires { FirstLong tables n free_count fold_count bounds.now rects.now places.now folds.now × Mapping sides shear.now shear_x.now
@@ -41,11 +43,15 @@ fn first_keys_of(
         (take (4 * n) rects.now)
         (take free_count places.now) (take fold_count folds.now) keys.old keys.new result }
 {
-    first::keys(
+    let scan = Scan {
         sides,
         shear,
         shear_x,
-        p,
+        settings: p,
+        caps: f,
+    };
+    first::keys(
+        &scan,
         &bounds[..4 * tables],
         &rects[..4 * n],
         &places[..free_count],
@@ -60,6 +66,7 @@ pub fn first_keys_in(
     shear: &[i32],
     shear_x: &[i32],
     p: RulingsParams,
+    f: FusionParams,
     tables: usize,
     n: usize,
     free_count: usize,
@@ -88,23 +95,25 @@ pub fn first_keys_in(
     let places = &mut parents[0][..];
     let folds = &mut order[0][..];
     first_keys_of(
-        sides, shear, shear_x, p, tables, n, free_count, fold_count, bounds, rects, places, folds,
-        keys[0],
+        sides, shear, shear_x, p, f, tables, n, free_count, fold_count, bounds, rects, places,
+        folds, keys[0],
     )
 }
 
 // From the front parts of the lists.
-fn grid_keys_of(
+fn grid_keys_of<'x>(
     sides: Sides,
-    shear: &[i32],
-    shear_x: &[i32],
+    shear: &'x [i32],
+    shear_x: &'x [i32],
+    p: RulingsParams,
+    f: FusionParams,
     boxes: usize,
     box_sets: usize,
     grids: usize,
-    rects: &[u32],
-    members: &[u32],
-    ends: &[u32],
-    numbers: &[u32],
+    rects: &'x [u32],
+    members: &'x [u32],
+    ends: &'x [u32],
+    numbers: &'x [u32],
     box_keys: &mut [u64],
 )
     requires { (4 * boxes ≤ length rects.now) × (grids ≤ length numbers.now) × Mapping sides shear.now shear_x.now
@@ -114,10 +123,15 @@ fn grid_keys_of(
         (map (λ n. grid_key sides shear.now shear_x.now (take (4 * boxes) rects.now)
         (members_of members.now ends.now box_sets n)) (take grids numbers.now)) }
 {
-    grid_findings::keys(
+    let scan = Scan {
         sides,
         shear,
         shear_x,
+        settings: p,
+        caps: f,
+    };
+    grid_findings::keys(
+        &scan,
         &rects[..4 * boxes],
         members,
         ends,
@@ -133,6 +147,8 @@ pub fn grid_keys_in(
     sides: Sides,
     shear: &[i32],
     shear_x: &[i32],
+    p: RulingsParams,
+    f: FusionParams,
     boxes: usize,
     box_sets: usize,
     grids: usize,
@@ -160,6 +176,8 @@ pub fn grid_keys_in(
         sides,
         shear,
         shear_x,
+        p,
+        f,
         boxes,
         box_sets,
         grids,

@@ -9,23 +9,25 @@ ghost use Rattle.page.specs.Lent.{list_at};
 ghost use Rattle.page.specs.Steps.{Only, Kept};
 ghost use Rattle.finding_stages.specs.Steps.{TablesLong, RulesLong, BoxesLong};
 
+use findings::sources::{RulingLists, Scan, TableLists};
+use grid_findings::sources::BoxLists;
 use layout::sides::Sides;
 use params::settings::{FusionParams, RulingsParams};
 
 // From the front parts of the lists.
-fn tables_written_of(
+fn tables_written_of<'x>(
     sides: Sides,
-    shear: &[i32],
-    shear_x: &[i32],
+    shear: &'x [i32],
+    shear_x: &'x [i32],
     p: RulingsParams,
     f: FusionParams,
     tables: usize,
-    bounds: &[u32],
-    rows: &[u32],
-    columns: &[u32],
-    rulings: &[u32],
-    shares: &[f64],
-    ranks: &[u32],
+    bounds: &'x [u32],
+    rows: &'x [u32],
+    columns: &'x [u32],
+    rulings: &'x [u32],
+    shares: &'x [f64],
+    ranks: &'x [u32],
     page: &mut [u32],
     facts: &mut [&mut [u32]; 4],
     scores: &mut [&mut [f64]; 8],
@@ -47,23 +49,21 @@ fn tables_written_of(
         (record { rects = page.old; facts = map (λ x. x.now) facts.old; scores = map (λ x. x.now) scores.old })
         (record { rects = page.new; facts = map (λ x. x.now) facts.new; scores = map (λ x. x.now) scores.new }) result }
 {
-    table_findings::write(
+    let scan = Scan {
         sides,
         shear,
         shear_x,
-        p,
-        f,
-        &bounds[..4 * tables],
-        &rows[..tables],
-        &columns[..tables],
-        &rulings[..tables],
-        &shares[..tables],
-        ranks,
-        0,
-        page,
-        facts,
-        scores,
-    )
+        settings: p,
+        caps: f,
+    };
+    let tables = TableLists {
+        bounds: &bounds[..4 * tables],
+        rows: &rows[..tables],
+        columns: &columns[..tables],
+        rulings: &rulings[..tables],
+        shares: &shares[..tables],
+    };
+    table_findings::write(&scan, &tables, ranks, 0, page, facts, scores)
 }
 
 // Stores the findings of the tables at their ranks, and tells whether every evidence number is finite.
@@ -119,20 +119,20 @@ pub fn tables_written_in(
 }
 
 // From the front parts of the lists.
-fn free_written_of(
+fn free_written_of<'x>(
     sides: Sides,
-    shear: &[i32],
-    shear_x: &[i32],
+    shear: &'x [i32],
+    shear_x: &'x [i32],
     p: RulingsParams,
     f: FusionParams,
     n: usize,
     free_count: usize,
     at: usize,
-    rects: &[u32],
-    directions: &[u32],
-    contrasts: &[f64],
-    places: &[u32],
-    ranks: &[u32],
+    rects: &'x [u32],
+    directions: &'x [u32],
+    contrasts: &'x [f64],
+    places: &'x [u32],
+    ranks: &'x [u32],
     page: &mut [u32],
     facts: &mut [&mut [u32]; 4],
     scores: &mut [&mut [f64]; 8],
@@ -149,15 +149,21 @@ fn free_written_of(
         (record { rects = page.old; facts = map (λ x. x.now) facts.old; scores = map (λ x. x.now) scores.old })
         (record { rects = page.new; facts = map (λ x. x.now) facts.new; scores = map (λ x. x.now) scores.new }) result }
 {
-    free_findings::write(
+    let scan = Scan {
         sides,
         shear,
         shear_x,
-        p,
-        f,
-        &rects[..4 * n],
-        &directions[..n],
-        &contrasts[..n],
+        settings: p,
+        caps: f,
+    };
+    let rulings = RulingLists {
+        rects: &rects[..4 * n],
+        directions: &directions[..n],
+        contrasts: &contrasts[..n],
+    };
+    free_findings::write(
+        &scan,
+        &rulings,
         &places[..free_count],
         ranks,
         at,
@@ -217,21 +223,21 @@ pub fn free_written_in(
 }
 
 // From the front parts of the lists.
-fn folds_written_of(
+fn folds_written_of<'x>(
     sides: Sides,
-    shear: &[i32],
-    shear_x: &[i32],
+    shear: &'x [i32],
+    shear_x: &'x [i32],
     p: RulingsParams,
     f: FusionParams,
     dpi: u16,
     n: usize,
     fold_count: usize,
     at: usize,
-    rects: &[u32],
-    directions: &[u32],
-    contrasts: &[f64],
-    folds: &[u32],
-    ranks: &[u32],
+    rects: &'x [u32],
+    directions: &'x [u32],
+    contrasts: &'x [f64],
+    folds: &'x [u32],
+    ranks: &'x [u32],
     page: &mut [u32],
     facts: &mut [&mut [u32]; 4],
     scores: &mut [&mut [f64]; 8],
@@ -247,16 +253,22 @@ fn folds_written_of(
         (record { rects = page.old; facts = map (λ x. x.now) facts.old; scores = map (λ x. x.now) scores.old })
         (record { rects = page.new; facts = map (λ x. x.now) facts.new; scores = map (λ x. x.now) scores.new }) result }
 {
-    fold_findings::write(
+    let scan = Scan {
         sides,
         shear,
         shear_x,
-        p,
-        f,
+        settings: p,
+        caps: f,
+    };
+    let rulings = RulingLists {
+        rects: &rects[..4 * n],
+        directions: &directions[..n],
+        contrasts: &contrasts[..n],
+    };
+    fold_findings::write(
+        &scan,
         dpi,
-        &rects[..4 * n],
-        &directions[..n],
-        &contrasts[..n],
+        &rulings,
         &folds[..fold_count],
         ranks,
         at,
@@ -317,22 +329,22 @@ pub fn folds_written_in(
 }
 
 // From the front parts of the lists.
-fn grids_written_of(
+fn grids_written_of<'x>(
     sides: Sides,
-    shear: &[i32],
-    shear_x: &[i32],
+    shear: &'x [i32],
+    shear_x: &'x [i32],
     p: RulingsParams,
     f: FusionParams,
     boxes: usize,
     box_sets: usize,
     grids: usize,
-    rects: &[u32],
-    marks: &[u32],
-    coverages: &[f64],
-    members: &[u32],
-    ends: &[u32],
-    numbers: &[u32],
-    ranks: &[u32],
+    rects: &'x [u32],
+    marks: &'x [u32],
+    coverages: &'x [f64],
+    members: &'x [u32],
+    ends: &'x [u32],
+    numbers: &'x [u32],
+    ranks: &'x [u32],
     page: &mut [u32],
     facts: &mut [&mut [u32]; 4],
     scores: &mut [&mut [f64]; 8],
@@ -349,25 +361,23 @@ fn grids_written_of(
         (record { rects = page.old; facts = map (λ x. x.now) facts.old; scores = map (λ x. x.now) scores.old })
         (record { rects = page.new; facts = map (λ x. x.now) facts.new; scores = map (λ x. x.now) scores.new }) result }
 {
-    grid_findings::write(
+    let scan = Scan {
         sides,
         shear,
         shear_x,
-        p,
-        f,
-        &rects[..4 * boxes],
-        &marks[..boxes],
-        &coverages[..boxes],
+        settings: p,
+        caps: f,
+    };
+    let boxes = BoxLists {
+        rects: &rects[..4 * boxes],
+        marks: &marks[..boxes],
+        coverages: &coverages[..boxes],
         members,
         ends,
-        box_sets,
-        &numbers[..grids],
-        ranks,
-        0,
-        page,
-        facts,
-        scores,
-    )
+        count: box_sets,
+        grids: &numbers[..grids],
+    };
+    grid_findings::write(&scan, &boxes, ranks, 0, page, facts, scores)
 }
 
 // Stores the findings of the grids at their ranks, and tells whether every evidence number is finite.

@@ -4,3 +4,4 @@
 pub mod keys;
 pub mod page;
 pub mod places;
+pub mod sources;

@@ -1,20 +1,14 @@
 // A rectangle's place on the page, and its sort key.
 ghost use Rattle.std.specs.Prelude.{◌≡◌, ◌<◌, ◌≤◌};
+ghost use Rattle.rects.specs.Around.{around};
 ghost use Rattle.rects.specs.Steps.{Inside};
-ghost use Rattle.layout.specs.ToPage.{rect_to_page};
 ghost use Rattle.findings.specs.Keys.{page_key};
-ghost use Rattle.findings.specs.Steps.{Mapping};
+ghost use Rattle.findings.specs.Made.{on_page};
+ghost use Rattle.findings.specs.Steps.{SetGiven};
 
+use crate::sources::Scan;
 use layout::rect::PageRect;
-use layout::sides::Sides;
 use rects::Rect;
-
-pub fn on_page(sides: Sides, shear: &[i32], shear_x: &[i32], r: Rect) -> PageRect
-    requires { Mapping sides shear.now shear_x.now × Inside sides.w sides.h r }
-    ensures { result ≡ rect_to_page sides shear.now shear_x.now r }
-{
-    layout::page::rect_to_page(sides, shear, shear_x, r)
-}
 
 // y0, x0 and the kind's number as one number.
 fn key_of(r: PageRect, kind: u32) -> u64
@@ -24,10 +18,38 @@ fn key_of(r: PageRect, kind: u32) -> u64
     (u64::from(r.y0) * 8192 + u64::from(r.x0)) * 4 + (u64::from(kind) - 16)
 }
 
-// The sort key of a finding of a kind that has this rectangle.
-pub fn rect_key(sides: Sides, shear: &[i32], shear_x: &[i32], r: Rect, kind: u32) -> u64
-    requires { Mapping sides shear.now shear_x.now × Inside sides.w sides.h r × (16 ≤ kind) × (kind < 20) }
-    ensures { result ≡ page_key (rect_to_page sides shear.now shear_x.now r) kind }
-{
-    key_of(on_page(sides, shear, shear_x, r), kind)
+impl Scan<'_> {
+    // Where a rectangle of the picture lies on the page.
+    pub fn on_page(&self, r: Rect) -> PageRect
+        requires { Inside self.now.sides.w self.now.sides.h r }
+        ensures place { result ≡ on_page self.now r }
+        ensures small { (result.x0 < 8192) × (result.y0 < 8192) }
+    {
+        layout::page::rect_to_page(self.sides, self.shear, self.shear_x, r)
+    }
+
+    // Where the smallest rectangle around those at some places lies on the page.
+    pub fn around(&self, rects: &[u32], places: &[u32]) -> PageRect
+        requires { SetGiven self.now.sides.w self.now.sides.h rects.now places.now }
+        ensures place { result ≡ on_page self.now (around rects.now places.now) }
+        ensures small { (result.x0 < 8192) × (result.y0 < 8192) }
+    {
+        self.on_page(rects::bounding(rects, places))
+    }
+
+    // The sort key of a finding of a kind that has this rectangle.
+    pub fn key(&self, r: Rect, kind: u32) -> u64
+        requires { Inside self.now.sides.w self.now.sides.h r × (16 ≤ kind) × (kind < 20) }
+        ensures { result ≡ page_key (on_page self.now r) kind }
+    {
+        key_of(self.on_page(r), kind)
+    }
+
+    // The sort key of a finding of a kind that has the smallest rectangle around those at some places.
+    pub fn key_around(&self, rects: &[u32], places: &[u32], kind: u32) -> u64
+        requires { SetGiven self.now.sides.w self.now.sides.h rects.now places.now × (16 ≤ kind) × (kind < 20) }
+        ensures { result ≡ page_key (on_page self.now (around rects.now places.now)) kind }
+    {
+        key_of(self.around(rects, places), kind)
+    }
 }

@@ -5,7 +5,7 @@ use mathlib.Core.List.{List, [], ◌∷◌, ◌++◌, append-nil}
 use Prim.Native.Nat.{ℕ, suc, ◌+◌, ◌≤◌, ◌<◌, zero-le}
 use native.Mathlib.Numerals.{add-one}
 use native.Mathlib.Omega.{arith}
-use lib.ListN.{length, get_or, take, set, length-append, length-set}
+use lib.ListN.{length, get_or, take, set, length-append}
 use lib.Seq.{take_all}
 use Rattle.lists.specs.Lists.{keep, written}
 use Rattle.lists.proofs.Keep.{keep_append}
@@ -15,14 +15,12 @@ use Rattle.findings.proofs.Fronts.{next_taken}
 
 -- Those of the first k entries that pass are listed, and there are n of them.
 pub record Chosen (q : ℕ → Bool) (xs out₀ out : List ℕ) (n k : ℕ) : Type 0 where
-  pub up_to : k ≤ length xs
   pub low : n ≤ k
   pub count : n ≡ length (keep q (take k xs))
   pub list : out ≡ written (keep q (take k xs)) out₀
-  pub long : length out ≡ length out₀
 
 pub chosen_none : (q : ℕ → Bool) (xs out₀ : List ℕ) → Chosen q xs out₀ out₀ 0 0
-chosen_none q xs out₀ = record { up_to = zero-le; low = zero-le; count = refl; list = refl; long = refl }
+chosen_none q xs out₀ = record { low = zero-le; count = refl; list = refl }
 
 module _ {q : ℕ → Bool} {xs out₀ out : List ℕ} {n k : ℕ} (C : Chosen q xs out₀ out n k) where
   next : {b : Bool} → k < length xs → q (get_or xs k 0) ≡ b → keep q (take (k + 1) xs) ≡ keep q (take k xs) ++ cond b (get_or xs k 0 ∷ []) []
@@ -34,22 +32,18 @@ module _ {q : ℕ → Bool} {xs out₀ out : List ℕ} {n k : ℕ} (C : Chosen q
   chosen_one l room e h =
       let more : keep q (take (k + 1) xs) ≡ keep q (take k xs) ++ (get_or xs k 0 ∷ []) = next l (sym e ∙ h) in
       record {
-        up_to = omega arith;
         low = omega (arith, C.low);
         count = add-one n ∙ ap suc C.count ∙ sym (ap length more ∙ length-append (keep q (take k xs)) (get_or xs k 0 ∷ []) ∙ add-one _);
         list = written_more (keep q (take k xs)) out₀ (get_or xs k 0) C.list (sym C.count) (omega (arith, C.low)) more;
-        long = length-set out n (get_or xs k 0) ∙ C.long;
       }
 
   pub chosen_past : {t : Bool} → k < length xs → t ≡ q (get_or xs k 0) → t ≡ false → Chosen q xs out₀ out n (k + 1)
   chosen_past l e h =
       let same : keep q (take (k + 1) xs) ≡ keep q (take k xs) = next l (sym e ∙ h) ∙ append-nil (keep q (take k xs)) in
       record {
-        up_to = omega arith;
         low = omega (arith, C.low);
         count = C.count ∙ ap length (sym same);
         list = C.list ∙ ap (λ (s : List ℕ). written s out₀) (sym same);
-        long = C.long;
       }
 
   pub chosen_all : length xs ≤ k → Front (keep q xs) out₀ out n

@@ -2,82 +2,62 @@
 #![tactic(auto)]
 
 ghost use Rattle.std.specs.Prelude.{◌≡◌, map, ◌+◌, ◌≤◌, ◌<◌, leb, length};
-ghost use Rattle.lists.specs.Lists.{written};
+ghost use Rattle.lists.specs.Lists.{one, written};
 ghost use Rattle.finding_lists.specs.Steps.{Wrote, RanksGiven};
-ghost use Rattle.findings.specs.Steps.{free_keys, Mapping, NumbersGiven, RectsGiven, AllGiven, KeysStored};
+ghost use Rattle.findings.specs.Steps.{free_keys, NumbersGiven, RectsGiven, AllGiven, KeysStored};
 ghost use Rattle.findings.specs.Made.{free_places, free_of, free_count_of};
 
 use evidence::finding::Finding;
 use finding_lists::put;
-use findings::{page, places};
-use layout::sides::Sides;
-use params::settings::{FusionParams, RulingsParams};
+use findings::places;
+use findings::sources::{RulingLists, Scan};
+use params::settings::RulingsParams;
 
 // The places of the free rulings among all: the free list holds places among the printed ones.
 pub fn list(printed: &[u32], free: &[u32], out: &mut [u32])
     requires { NumbersGiven printed.now free.now × (length free.now ≤ length out.old) }
     ensures { out.new ≡ written (free_places printed.now free.now) out.old }
 {
-    for (k, place) in free.iter().enumerate() {
-        out[k] = printed[*place as usize];
+    for (k, &i) in free.iter().enumerate() {
+        out[k] = printed[i as usize];
     }
 }
 
-// Are so many rulings enough for a finding?
-fn enough(p: RulingsParams, count: usize) -> bool
-    ensures { result ≡ leb p.min_free_rules count }
+// How many findings so many free rulings make.
+fn made(p: RulingsParams, count: usize) -> usize
+    ensures { result ≡ one (leb p.min_free_rules count) }
 {
-    p.min_free_rules as usize <= count
+    usize::from(p.min_free_rules as usize <= count)
 }
 
 // The key of the free rules' finding, stored at place `at` of the list if there is one, and how many there are.
-pub fn keys(
-    sides: Sides,
-    shear: &[i32],
-    shear_x: &[i32],
-    p: RulingsParams,
-    rects: &[u32],
-    places: &[u32],
-    at: usize,
-    keys: &mut [u64],
-) -> usize
-    requires { Mapping sides shear.now shear_x.now × (1 ≤ p.min_free_rules) × RectsGiven sides.w sides.h rects.now places.now
-        × (at + free_count_of p places.now ≤ length keys.old) }
-    ensures { KeysStored (free_keys sides shear.now shear_x.now p rects.now places.now) at
+pub fn keys(scan: &Scan, rects: &[u32], places: &[u32], at: usize, keys: &mut [u64]) -> usize
+    requires { (1 ≤ scan.now.settings.min_free_rules) × RectsGiven scan.now.sides.w scan.now.sides.h rects.now places.now
+        × (at + free_count_of scan.now.settings places.now ≤ length keys.old) }
+    ensures { KeysStored (free_keys scan.now.sides scan.now.shear scan.now.shear_x scan.now.settings rects.now places.now) at
         keys.old keys.new result }
 {
-    if !enough(p, places.len()) {
-        return 0;
-    }
-    keys[at] = page::rect_key(sides, shear, shear_x, rects::bounding(rects, places), 17);
-    1
+    let n = made(scan.settings, places.len());
+    findings::keys::put_all(|_| scan.key_around(rects, places, 17), n, at, keys);
+    n
 }
 
-pub fn finding(
-    sides: Sides,
-    shear: &[i32],
-    shear_x: &[i32],
-    p: RulingsParams,
-    f: FusionParams,
-    rects: &[u32],
-    directions: &[u32],
-    contrasts: &[f64],
-    places: &[u32],
-) -> Finding
-    requires { Mapping sides shear.now shear_x.now × (0 < length places.now) × AllGiven sides.w sides.h rects.now directions.now
-        contrasts.now places.now }
-    ensures { result ≡ free_of (record { sides = sides; shear = shear.now; shear_x = shear_x.now; settings = p; caps = f })
-        (record { rects = rects.now; directions = directions.now; contrasts = contrasts.now }) places.now }
+// The finding of the free rules, which are the rulings at some places.
+pub fn finding(scan: &Scan, rulings: &RulingLists, places: &[u32]) -> Finding
+    requires { (0 < length places.now) × AllGiven scan.now.sides.w scan.now.sides.h rulings.now.rects rulings.now.directions
+        rulings.now.contrasts places.now }
+    ensures { result ≡ free_of scan.now rulings.now places.now }
 {
-    let bbox = page::on_page(sides, shear, shear_x, rects::bounding(rects, places));
+    let settings = scan.settings;
+    let bbox = scan.around(rulings.rects, places);
     let count = places.len();
-    let horizontal = places::count_equal(directions, places, 0);
+    let horizontal = places::count_equal(rulings.directions, places, 0);
     let vertical = count - horizontal;
-    let longest = places::longest(rects, directions, places);
-    let mean = places::mean(contrasts, places);
+    let longest = places::longest(rulings.rects, rulings.directions, places);
+    let mean = places::mean(rulings.contrasts, places);
     evidence::kinds::free_finding(
-        p,
-        f,
+        settings,
+        scan.caps,
         bbox,
         count as u32,
         horizontal as u32,
@@ -90,36 +70,30 @@ pub fn finding(
 // Stores the finding of the free rules, if there is one, at its rank, which stands at place `at`, and tells whether every evidence number
 // is finite.
 pub fn write(
-    sides: Sides,
-    shear: &[i32],
-    shear_x: &[i32],
-    p: RulingsParams,
-    f: FusionParams,
-    rects: &[u32],
-    directions: &[u32],
-    contrasts: &[f64],
+    scan: &Scan,
+    rulings: &RulingLists,
     places: &[u32],
     ranks: &[u32],
     at: usize,
-    page: &mut [u32],
+    rects: &mut [u32],
     facts: &mut [&mut [u32]; 4],
     scores: &mut [&mut [f64]; 8],
 ) -> bool
-    requires mapping { Mapping sides shear.now shear_x.now × (1 ≤ p.min_free_rules) × AllGiven sides.w sides.h rects.now directions.now
-        contrasts.now places.now }
-    requires ranks_given { RanksGiven ranks.now at (free_count_of p places.now)
-        (record { rects = page.old; facts = map (λ x. x.now) facts.old; scores = map (λ x. x.now) scores.old }) }
-    ensures { Wrote (λ k. free_of (record { sides = sides; shear = shear.now; shear_x = shear_x.now; settings = p; caps = f })
-        (record { rects = rects.now; directions = directions.now; contrasts = contrasts.now }) places.now)
-        (free_count_of p places.now) ranks.now at
-        (record { rects = page.old; facts = map (λ x. x.now) facts.old; scores = map (λ x. x.now) scores.old })
-        (record { rects = page.new; facts = map (λ x. x.now) facts.new; scores = map (λ x. x.now) scores.new }) result }
+    requires given { (1 ≤ scan.now.settings.min_free_rules) × AllGiven scan.now.sides.w scan.now.sides.h rulings.now.rects
+        rulings.now.directions rulings.now.contrasts places.now }
+    requires ranks_given { RanksGiven ranks.now at (free_count_of scan.now.settings places.now) (record { rects = rects.old; facts = map (λ x. x.now) facts.old; scores = map (λ x. x.now) scores.old }) }
+    ensures { Wrote (λ k. free_of scan.now rulings.now places.now) (free_count_of scan.now.settings places.now) ranks.now at
+        (record { rects = rects.old; facts = map (λ x. x.now) facts.old; scores = map (λ x. x.now) scores.old })
+        (record { rects = rects.new; facts = map (λ x. x.now) facts.new; scores = map (λ x. x.now) scores.new }) result }
 {
-    if !enough(p, places.len()) {
-        return true;
-    }
-    let found = finding(
-        sides, shear, shear_x, p, f, rects, directions, contrasts, places,
-    );
-    put::put_ranked(found, ranks, at, page, facts, scores)
+    let n = made(scan.settings, places.len());
+    put::put_all(
+        |_| finding(scan, rulings, places),
+        n,
+        ranks,
+        at,
+        rects,
+        facts,
+        scores,
+    )
 }

@@ -5,28 +5,21 @@ ghost use Rattle.std.specs.Prelude.{◌≡◌, map, ◌+◌, ◌<◌, ◌≤◌,
 ghost use Rattle.std.proofs.lemmas.List.Edits.{sets};
 ghost use Rattle.sets.specs.Listing.{members_of};
 ghost use Rattle.finding_lists.specs.Steps.{Wrote, RanksGiven};
-ghost use Rattle.findings.specs.Steps.{grid_key, Mapping, SetGiven, AllGiven, GridRectsGiven, GridsGiven};
+ghost use Rattle.findings.specs.Steps.{grid_key, AllGiven, GridRectsGiven, GridsGiven};
 ghost use Rattle.findings.specs.Made.{grid_of};
+ghost use Rattle.grid_findings.specs.Boxes.{sets_of};
+
+pub mod sources;
 
 use evidence::finding::Finding;
 use finding_lists::put;
-use findings::{page, places};
-use layout::sides::Sides;
-use params::settings::{FusionParams, RulingsParams};
-
-// The key of the finding of the grid that is a set of boxes.
-fn key(sides: Sides, shear: &[i32], shear_x: &[i32], rects: &[u32], set: &[u32]) -> u64
-    requires { Mapping sides shear.now shear_x.now × SetGiven sides.w sides.h rects.now set.now }
-    ensures { result ≡ grid_key sides shear.now shear_x.now rects.now set.now }
-{
-    page::rect_key(sides, shear, shear_x, rects::bounding(rects, set), 18)
-}
+use findings::places;
+use findings::sources::Scan;
+use sources::BoxLists;
 
 // The keys of the grids' findings, from place `at` of the list on.
 pub fn keys(
-    sides: Sides,
-    shear: &[i32],
-    shear_x: &[i32],
+    scan: &Scan,
     rects: &[u32],
     members: &[u32],
     ends: &[u32],
@@ -35,86 +28,80 @@ pub fn keys(
     at: usize,
     keys: &mut [u64],
 )
-    requires { Mapping sides shear.now shear_x.now × GridRectsGiven sides.w sides.h rects.now (members_of members.now ends.now count)
-        numbers.now
+    requires { GridRectsGiven scan.now.sides.w scan.now.sides.h rects.now (members_of members.now ends.now count) numbers.now
         × (at + length numbers.now ≤ length keys.old) }
     ensures { keys.new ≡ sets keys.old at
-        (map (λ n. grid_key sides shear.now shear_x.now rects.now
-        (members_of members.now ends.now count n)) numbers.now) }
+        (map (λ n. grid_key scan.now.sides scan.now.shear scan.now.shear_x rects.now (members_of members.now ends.now count n)) numbers.now) }
 {
     findings::keys::put_all(
         |k| {
             let set = listings::members_of(members, ends, count, numbers[k] as usize);
-            key(sides, shear, shear_x, rects, set)
+            scan.key_around(rects, set, 18)
         },
         numbers.len(),
         at,
         keys,
-    )
+    );
 }
 
 // The finding of the grid that is a set of boxes. A box is ticked where its mark is 1.
-pub fn finding(
-    sides: Sides,
-    shear: &[i32],
-    shear_x: &[i32],
-    p: RulingsParams,
-    f: FusionParams,
-    rects: &[u32],
-    marks: &[u32],
-    coverages: &[f64],
-    set: &[u32],
-) -> Finding
-    requires { Mapping sides shear.now shear_x.now × (0 < length set.now) × AllGiven sides.w sides.h rects.now marks.now
-        coverages.now set.now }
-    ensures { result ≡ grid_of (record { sides = sides; shear = shear.now; shear_x = shear_x.now; settings = p; caps = f })
-        rects.now marks.now coverages.now set.now }
+pub fn finding(scan: &Scan, boxes: &BoxLists, set: &[u32]) -> Finding
+    requires { (0 < length set.now) × AllGiven scan.now.sides.w scan.now.sides.h boxes.now.rects boxes.now.marks
+        boxes.now.coverages set.now }
+    ensures { result ≡ grid_of scan.now boxes.now.rects boxes.now.marks boxes.now.coverages set.now }
 {
-    let bbox = page::on_page(sides, shear, shear_x, rects::bounding(rects, set));
-    let ticked = places::count_equal(marks, set, 1) as u32;
-    let mean = places::mean(coverages, set);
-    evidence::kinds::grid_finding(p, f, bbox, set.len() as u32, ticked, mean)
+    let bbox = scan.around(boxes.rects, set);
+    let ticked = places::count_equal(boxes.marks, set, 1) as u32;
+    let mean = places::mean(boxes.coverages, set);
+    evidence::kinds::grid_finding(
+        scan.settings,
+        scan.caps,
+        bbox,
+        set.len() as u32,
+        ticked,
+        mean,
+    )
+}
+
+// The finding of grid k.
+fn finding_at(scan: &Scan, boxes: &BoxLists, k: usize) -> Finding
+    requires { GridsGiven scan.now.sides.w scan.now.sides.h boxes.now.rects boxes.now.marks boxes.now.coverages (sets_of boxes.now)
+        boxes.now.grids × (k < length boxes.now.grids) }
+    ensures { result ≡ grid_of scan.now boxes.now.rects boxes.now.marks boxes.now.coverages (sets_of boxes.now (get_or boxes.now.grids k 0)) }
+{
+    let set = listings::members_of(
+        boxes.members,
+        boxes.ends,
+        boxes.count,
+        boxes.grids[k] as usize,
+    );
+    finding(scan, boxes, set)
 }
 
 // Stores the grids' findings at their ranks, which stand from place `at` on, and tells whether every evidence number is finite.
 pub fn write(
-    sides: Sides,
-    shear: &[i32],
-    shear_x: &[i32],
-    p: RulingsParams,
-    f: FusionParams,
-    rects: &[u32],
-    marks: &[u32],
-    coverages: &[f64],
-    members: &[u32],
-    ends: &[u32],
-    count: usize,
-    numbers: &[u32],
+    scan: &Scan,
+    boxes: &BoxLists,
     ranks: &[u32],
     at: usize,
-    page: &mut [u32],
+    rects: &mut [u32],
     facts: &mut [&mut [u32]; 4],
     scores: &mut [&mut [f64]; 8],
 ) -> bool
-    requires mapping { Mapping sides shear.now shear_x.now × GridsGiven sides.w sides.h rects.now marks.now coverages.now
-        (members_of members.now ends.now count) numbers.now }
-    requires ranks_given { RanksGiven ranks.now at (length numbers.now) (record { rects = page.old; facts = map (λ x. x.now) facts.old; scores = map (λ x. x.now) scores.old }) }
-    ensures { Wrote (λ k. grid_of (record { sides = sides; shear = shear.now; shear_x = shear_x.now; settings = p; caps = f })
-        rects.now marks.now coverages.now
-        (members_of members.now ends.now count (get_or numbers.now k 0)))
-        (length numbers.now) ranks.now at
-        (record { rects = page.old; facts = map (λ x. x.now) facts.old; scores = map (λ x. x.now) scores.old })
-        (record { rects = page.new; facts = map (λ x. x.now) facts.new; scores = map (λ x. x.now) scores.new }) result }
+    requires given { GridsGiven scan.now.sides.w scan.now.sides.h boxes.now.rects boxes.now.marks boxes.now.coverages (sets_of boxes.now)
+        boxes.now.grids }
+    requires ranks_given { RanksGiven ranks.now at (length boxes.now.grids) (record { rects = rects.old; facts = map (λ x. x.now) facts.old; scores = map (λ x. x.now) scores.old }) }
+    ensures { Wrote (λ k. grid_of scan.now boxes.now.rects boxes.now.marks boxes.now.coverages (sets_of boxes.now (get_or boxes.now.grids k 0)))
+        (length boxes.now.grids) ranks.now at
+        (record { rects = rects.old; facts = map (λ x. x.now) facts.old; scores = map (λ x. x.now) scores.old })
+        (record { rects = rects.new; facts = map (λ x. x.now) facts.new; scores = map (λ x. x.now) scores.new }) result }
 {
     put::put_all(
-        |k| {
-            let set = listings::members_of(members, ends, count, numbers[k] as usize);
-            finding(sides, shear, shear_x, p, f, rects, marks, coverages, set)
-        },
-        numbers.len(),
+        |k| finding_at(scan, boxes, k),
+        boxes.grids.len(),
         ranks,
         at,
-        page,
+        rects,
         facts,
         scores,
     )

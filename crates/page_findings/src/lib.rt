@@ -118,10 +118,10 @@ pub fn find(
     finding_stages::places::free_places_in(n.printed, free, chosen, rest, parents);
     let folds = finding_stages::places::folds_in(p, dpi, r, n.faint, rects, tags, rest, order);
     let rules = finding_stages::keys::first_keys_in(
-        sides, shear, shear_x, p, t, r, free, folds, bounds, rects, parents, order, keys,
+        sides, shear, shear_x, p, f, t, r, free, folds, bounds, rects, parents, order, keys,
     );
     finding_stages::keys::grid_keys_in(
-        sides, shear, shear_x, b, sets, g, rects, members, ends, numbers, box_keys,
+        sides, shear, shear_x, p, f, b, sets, g, rects, members, ends, numbers, box_keys,
     );
     let first = t + rules + folds;
     finding_stages::keys::rank_in(

@@ -7,105 +7,65 @@ ghost use Rattle.lists.specs.Lists.{below};
 ghost use Rattle.rects.specs.Rects.{count};
 ghost use Rattle.rects.specs.Steps.{AllInside};
 ghost use Rattle.finding_lists.specs.Steps.{Wrote, RanksGiven};
-ghost use Rattle.findings.specs.Steps.{table_key, Mapping, TablesGiven};
+ghost use Rattle.findings.specs.Steps.{table_key, TablesGiven};
 ghost use Rattle.findings.specs.Made.{table_at};
 
 use evidence::finding::Finding;
 use finding_lists::put;
-use findings::page;
-use layout::sides::Sides;
-use params::settings::{FusionParams, RulingsParams};
+use findings::sources::{Scan, TableLists};
 
 // The keys of the tables' findings, from place `at` of the list on.
-pub fn keys(
-    sides: Sides,
-    shear: &[i32],
-    shear_x: &[i32],
-    bounds: &[u32],
-    at: usize,
-    keys: &mut [u64],
-)
-    requires { Mapping sides shear.now shear_x.now × AllInside sides.w sides.h bounds.now × (at + count bounds.now ≤ length keys.old) }
+pub fn keys(scan: &Scan, bounds: &[u32], at: usize, keys: &mut [u64])
+    requires { AllInside scan.now.sides.w scan.now.sides.h bounds.now × (at + count bounds.now ≤ length keys.old) }
     ensures { keys.new ≡ sets keys.old at
-        (map (table_key sides shear.now shear_x.now bounds.now) (below (count bounds.now))) }
+        (map (table_key scan.now.sides scan.now.shear scan.now.shear_x bounds.now) (below (count bounds.now))) }
 {
     findings::keys::put_all(
-        |k| page::rect_key(sides, shear, shear_x, rects::rect_at(bounds, k), 16),
+        |k| scan.key(rects::rect_at(bounds, k), 16),
         bounds.len() / 4,
         at,
         keys,
-    )
+    );
 }
 
 // The finding of table k.
-pub fn finding(
-    sides: Sides,
-    shear: &[i32],
-    shear_x: &[i32],
-    p: RulingsParams,
-    f: FusionParams,
-    bounds: &[u32],
-    rows: &[u32],
-    columns: &[u32],
-    rulings: &[u32],
-    shares: &[f64],
-    k: usize,
-) -> Finding
-    requires { Mapping sides shear.now shear_x.now × TablesGiven sides.w sides.h bounds.now rows.now columns.now rulings.now
-        shares.now × (k < count bounds.now) }
-    ensures { result ≡ table_at (record { sides = sides; shear = shear.now; shear_x = shear_x.now; settings = p; caps = f })
-        (record {
-          bounds = bounds.now;
-          rows = rows.now;
-          columns = columns.now;
-          rulings = rulings.now;
-          shares = shares.now;
-        }) k }
+pub fn finding(scan: &Scan, tables: &TableLists, k: usize) -> Finding
+    requires { TablesGiven scan.now.sides.w scan.now.sides.h tables.now.bounds tables.now.rows tables.now.columns tables.now.rulings
+        tables.now.shares × (k < count tables.now.bounds) }
+    ensures { result ≡ table_at scan.now tables.now k }
 {
-    let bbox = page::on_page(sides, shear, shear_x, rects::rect_at(bounds, k));
-    evidence::kinds::table_finding(p, f, bbox, rows[k], columns[k], rulings[k], shares[k])
+    let bbox = scan.on_page(rects::rect_at(tables.bounds, k));
+    evidence::kinds::table_finding(
+        scan.settings,
+        scan.caps,
+        bbox,
+        tables.rows[k],
+        tables.columns[k],
+        tables.rulings[k],
+        tables.shares[k],
+    )
 }
 
 // Stores the tables' findings at their ranks, which stand from place `at` on, and tells whether every evidence number is finite.
 pub fn write(
-    sides: Sides,
-    shear: &[i32],
-    shear_x: &[i32],
-    p: RulingsParams,
-    f: FusionParams,
-    bounds: &[u32],
-    rows: &[u32],
-    columns: &[u32],
-    rulings: &[u32],
-    shares: &[f64],
+    scan: &Scan,
+    tables: &TableLists,
     ranks: &[u32],
     at: usize,
     rects: &mut [u32],
     facts: &mut [&mut [u32]; 4],
     scores: &mut [&mut [f64]; 8],
 ) -> bool
-    requires mapping { Mapping sides shear.now shear_x.now × TablesGiven sides.w sides.h bounds.now rows.now columns.now rulings.now
-        shares.now }
-    requires ranks_given { RanksGiven ranks.now at (count bounds.now) (record { rects = rects.old; facts = map (λ x. x.now) facts.old; scores = map (λ x. x.now) scores.old }) }
-    ensures { Wrote (table_at (record { sides = sides; shear = shear.now; shear_x = shear_x.now; settings = p; caps = f })
-        (record {
-          bounds = bounds.now;
-          rows = rows.now;
-          columns = columns.now;
-          rulings = rulings.now;
-          shares = shares.now;
-        }))
-        (count bounds.now) ranks.now at
+    requires given { TablesGiven scan.now.sides.w scan.now.sides.h tables.now.bounds tables.now.rows tables.now.columns tables.now.rulings
+        tables.now.shares }
+    requires ranks_given { RanksGiven ranks.now at (count tables.now.bounds) (record { rects = rects.old; facts = map (λ x. x.now) facts.old; scores = map (λ x. x.now) scores.old }) }
+    ensures { Wrote (table_at scan.now tables.now) (count tables.now.bounds) ranks.now at
         (record { rects = rects.old; facts = map (λ x. x.now) facts.old; scores = map (λ x. x.now) scores.old })
         (record { rects = rects.new; facts = map (λ x. x.now) facts.new; scores = map (λ x. x.now) scores.new }) result }
 {
     put::put_all(
-        |k| {
-            finding(
-                sides, shear, shear_x, p, f, bounds, rows, columns, rulings, shares, k,
-            )
-        },
-        bounds.len() / 4,
+        |k| finding(scan, tables, k),
+        tables.bounds.len() / 4,
         ranks,
         at,
         rects,

@@ -1,4 +1,4 @@
--- `fold_findings::choose` meets its contract. The invariant: the folds among the first k faint rulings are listed.
+-- `fold_findings::choose` meets its contract. The invariant: the folds among the faint rulings so far are listed.
 use Rattle.evidence.specs.Kinds.{is_fold}
 use Rattle.findings.specs.Made.{fold_inches}
 use Rattle.fold_findings.proofs.Chosen.{Chosen}

@@ -1,4 +1,4 @@
--- `fold_findings::keys` meets its contract: the keys place by place are those of the folds.
+-- `fold_findings::keys` meets its contract: key k is that of fold k.
 use mathlib.Core.Path.{ap, ◌∙◌}
 use lib.ListN.{get_or}
 use lib.Seq.{sets}
@@ -9,6 +9,6 @@ use Rattle.fold_findings.proofs.keys.Goals as goal
 
 pub returns : goal.returns
 returns c =
-    let a = c.args in
-    c.put_all.ensures (λ k. fold_key a.sides a.shear.now a.shear_x.now a.rects.now (get_or a.folds.now k 0)) (λ k r l p. search rules)
-    ∙ ap (sets a.keys.now a.at) (at_places (fold_key a.sides a.shear.now a.shear_x.now a.rects.now) a.folds.now)
+    let key = fold_key c.args.scan.now.sides c.args.scan.now.shear c.args.scan.now.shear_x c.args.rects.now in
+    c.put_all.ensures (λ k. key (get_or c.args.folds.now k 0)) (λ k x h p. search rules)
+    ∙ ap (sets c.args.keys.now c.args.at) (at_places key c.args.folds.now)

@@ -1,5 +1,6 @@
--- `grid_findings::keys` meets its contract: the keys place by place are those of the grids.
+-- `grid_findings::keys` meets its contract: key k is that of grid k.
 use mathlib.Core.Path.{ap, ◌∙◌}
+use Prim.Native.Nat.{ℕ}
 use lib.ListN.{get_or}
 use lib.Seq.{sets}
 use Rattle.std.proofs.Common.{rules}
@@ -11,5 +12,6 @@ use Rattle.grid_findings.proofs.keys.Goals as goal
 pub returns : goal.returns
 returns c =
     let a = c.args in
-    c.put_all.ensures (λ k. grid_key a.sides a.shear.now a.shear_x.now a.rects.now (members_of a.members.now a.ends.now a.count (get_or a.numbers.now k 0))) (λ k r l p. search rules)
-    ∙ ap (sets a.keys.now a.at) (at_places (λ n. grid_key a.sides a.shear.now a.shear_x.now a.rects.now (members_of a.members.now a.ends.now a.count n)) a.numbers.now)
+    let key : ℕ → ℕ = λ n. grid_key a.scan.now.sides a.scan.now.shear a.scan.now.shear_x a.rects.now (members_of a.members.now a.ends.now a.count n) in
+    c.put_all.ensures (λ k. key (get_or a.numbers.now k 0)) (λ k x h p. search rules)
+    ∙ ap (sets a.keys.now a.at) (at_places key a.numbers.now)
