@@ -34,7 +34,8 @@ impl Scan<'_> {
         ensures place { result ≡ on_page self.now (around rects.now places.now) }
         ensures small { (result.x0 < 8192) × (result.y0 < 8192) }
     {
-        self.on_page(rects::bounding(rects, places))
+        let r = rects::bounding(rects, places);
+        self.on_page(r)
     }
 
     // The sort key of a finding of a kind that has this rectangle.

@@ -7,7 +7,7 @@ pub rect_to_page-requires : goal.rect_to_page-requires
 rect_to_page-requires c =
     let M = c.self.invariant in
     let I = rw (← c.self.view_is) at c.requires in
-    (M.sheared, (M.paged c.args.r I, ((omega (arith, I.wide, I.right), omega (arith, I.high, I.bottom)), (I.right, I.bottom))))
+    (M.sheared, (M.paged c.args.r I, ((omega (arith, I.wide, I.right), omega (arith, I.high, I.bottom)), (omega (arith, I.wide, I.right), omega (arith, I.bottom)))))
 
 pub returns : goal.returns
 returns c =
