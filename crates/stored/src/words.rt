@@ -1,5 +1,7 @@
 // The words of the stored calls: hex digits, ended by one byte that is none.
-ghost use Rattle.std.specs.Prelude.{◌≤◌, ◌<◌, length, IfSome};
+ghost use Rattle.std.specs.Prelude.{◌≡◌, ◌↔◌, ◌≤◌, ◌<◌, List, ℕ, length, IfSome, IsTrue};
+
+use std::marker::Model;
 
 // A text that is read word by word: what is left of it.
 #[derive(Drop)]
@@ -7,17 +9,29 @@ pub struct Reader<'a> {
     rest: &'a [u8],
 }
 
+impl<'a> Model for Reader<'a> {
+    ghost Value = { List ℕ };
+
+    ghost view = { λ r. r.rest.now };
+}
+
 impl<'a> Reader<'a> {
-    pub fn new(text: &'a [u8]) -> Reader<'a> {
+    pub fn new(text: &'a [u8]) -> Reader<'a>
+        ensures { result ≡ text.now }
+    {
         Reader { rest: text }
     }
 
-    pub fn is_at_end(&self) -> bool {
+    pub fn is_at_end(&self) -> bool
+        ensures { IsTrue result ↔ (length self.now ≡ 0) }
+    {
         self.rest.is_empty()
     }
 
     // The next word, of which the last 16 digits count; 0 at the end of the text.
-    pub fn word(&mut self) -> u64 {
+    pub fn word(&mut self) -> u64
+        ensures { length self.new ≤ length self.old }
+    {
         let mut value = 0;
         while let Some((b, rest)) = self.rest.split_first() {
             self.rest = rest;
