@@ -56,6 +56,7 @@ fn room_fits(n: usize, rects: usize, marks: usize, coverages: usize) -> bool
     (4 * n <= rects) & (n <= marks) & (n <= coverages)
 }
 
+// A number and no error type: C gets it as it is.
 // The number of the first missed question, and 0 where none is missed.
 pub fn missed(
     w: usize,

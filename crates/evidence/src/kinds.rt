@@ -74,7 +74,13 @@ pub fn free_finding(
     ensures { result ≡ free_finding p f bbox count horizontal vertical longest mean }
 {
     let clip = f.llr_clip;
-    let first = count_evidence(count as f64, 0.0, p.free_rules_coef, p.free_rules_cap, clip);
+    let first = count_evidence(
+        f64::from(count),
+        0.0,
+        p.free_rules_coef,
+        p.free_rules_cap,
+        clip,
+    );
     let second = score::evidence_of(mean, p.rule_min_contrast, 0.0, clip);
     let llr = second.llr;
     let kind = Kind::FreeRules {
@@ -99,8 +105,8 @@ pub fn grid_finding(
 {
     let clip = f.llr_clip;
     let first = count_evidence(
-        boxes as f64,
-        p.grid_min_boxes as f64,
+        f64::from(boxes),
+        f64::from(p.grid_min_boxes),
         p.grid_coef,
         p.grid_cap,
         clip,
@@ -119,7 +125,7 @@ pub fn grid_finding(
 pub fn inches(length: u32, dpi: u16) -> f64
     ensures { result ≡ inches_of length dpi }
 {
-    length as f64 / dpi as f64
+    f64::from(length) / f64::from(dpi)
 }
 
 // A faint ruling of so many inches is a fold unless it is too short.

@@ -27,6 +27,7 @@ pub fn room_for_boxes(
         & (n <= keys)
 }
 
+// A number and no error type: C gets it as it is.
 // The number of the first missed question, and 0 where none is.
 pub fn missed(xheight: f64, p: RulingsParams, rects: &[u32], room: bool) -> u32
     ensures { result ≡ first_missed (given_questions (record { xheight = xheight; settings = p; rects = rects.now }) ++ (14, room) ∷ []) }

@@ -32,6 +32,7 @@ fn missed_by_settings(p: RulingsParams, f: FusionParams) -> u32
 }
 
 // Questions 1 to 13.
+// Numbers and no error type: C gets them as they are.
 pub fn missed_by_given(
     sides: Sides,
     dpi: u16,

@@ -75,7 +75,7 @@ fn digit(b: u8) -> Option<u64>
     }
 }
 
-// A number of 32 bits: the low ones of a word.
+// A number of 32 bits: the low ones of a word. `as` must lose nothing, so the rest is cut first, here and below.
 pub fn whole_of(value: u64) -> u32 {
     (value % 0x1_0000_0000) as u32
 }

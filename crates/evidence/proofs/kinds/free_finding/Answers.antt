@@ -8,4 +8,4 @@ pub returns : goal.returns
 unfolding free_finding
 returns c =
     let a = c.args in
-    made_of_two (FreeRules a.horizontal a.vertical a.longest) a.bbox a.p.free_rules_prior a.f.group_cap c.count_evidence-first.ensures c.evidence_of-second.ensures c.with_two.ensures
+    made_of_two (FreeRules a.horizontal a.vertical a.longest) a.bbox a.p.free_rules_prior a.f.group_cap (rw c.from.ensures at c.count_evidence-first.ensures) c.evidence_of-second.ensures c.with_two.ensures

@@ -8,4 +8,4 @@ pub returns : goal.returns
 unfolding grid_finding
 returns c =
     let a = c.args in
-    made_of_two (Grid a.boxes a.ticked) a.bbox a.p.grid_prior a.f.group_cap c.count_evidence-first.ensures c.evidence_of-second.ensures c.with_two.ensures
+    made_of_two (Grid a.boxes a.ticked) a.bbox a.p.grid_prior a.f.group_cap (rw (c.from.ensures, c.from-2.ensures) at c.count_evidence-first.ensures) c.evidence_of-second.ensures c.with_two.ensures
