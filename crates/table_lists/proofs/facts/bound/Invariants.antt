@@ -34,4 +34,4 @@ module _ (rects chosen : List ℕ) (f : ℕ → List ℕ) (numbers out : List �
       at_end e = omega arith
 
 abbrev pub invariant-loop-t : goal.invariant-loop-t
-invariant-loop-t l = l.out ≡ written (strung (four l.rects l.chosen (members_of l.members l.ends l.count)) (take l.t l.numbers)) l.initial.out
+invariant-loop-t l = l.out ≡ written (strung (four l.rulings.rects l.rulings.chosen (members_of l.members l.ends l.count)) (take l.t l.numbers)) l.initial.out

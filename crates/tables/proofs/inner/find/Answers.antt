@@ -20,7 +20,7 @@ four_below h k l = omega arith
 pub choose-found-requires : goal.choose-found-requires
 choose-found-requires c =
     record {
-      given = (c.requires.join_bound.1, sets_in _ _ _ c.connect-sets.ensures c.requires.roomy.members c.requires.roomy.ends);
+      given = sets_in _ _ _ c.connect-sets.ensures c.requires.roomy.members c.requires.roomy.ends;
       rooms = record {
         keys = kept_room c.requires.roomy.keys c.connect-sets.auto.keys;
         order = kept_room c.requires.roomy.parents c.connect-sets.auto.parents;
@@ -35,7 +35,7 @@ choose-found-requires c =
 pub describe-requires : goal.describe-requires
 describe-requires c =
     let S = sets_in _ _ _ c.connect-sets.ensures c.requires.roomy.members c.requires.roomy.ends in
-    let low = tables_low c.choose-found.ensures in record { join_bound = (c.requires.join_bound.0, c.requires.join_bound.1, S, numbers_in c.choose-found.ensures S.few c.requires.roomy.numbers c.choose-found.auto.numbers); tables_in_bounds = (four_below low S.few c.requires.roomy.bounds, below_all low S.few c.requires.roomy.rulings, below_all low S.few c.requires.roomy.shares); chosen_in_bounds = (kept_twice c.requires.roomy.parents c.connect-sets.auto.parents c.choose-found.auto.order, kept_twice c.requires.roomy.work c.connect-sets.auto.work c.choose-found.auto.work, kept_twice c.requires.roomy.keys c.connect-sets.auto.keys c.choose-found.auto.keys) }
+    let low = tables_low c.choose-found.ensures in record { join_bound = (c.requires.join_bound, S, numbers_in c.choose-found.ensures S.few c.requires.roomy.numbers c.choose-found.auto.numbers); tables_in_bounds = (four_below low S.few c.requires.roomy.bounds, below_all low S.few c.requires.roomy.rulings, below_all low S.few c.requires.roomy.shares); chosen_in_bounds = (kept_twice c.requires.roomy.parents c.connect-sets.auto.parents c.choose-found.auto.order, kept_twice c.requires.roomy.work c.connect-sets.auto.work c.choose-found.auto.work, kept_twice c.requires.roomy.keys c.connect-sets.auto.keys c.choose-found.auto.keys) }
 
 pub shape_of-members : goal.shape_of-members
 shape_of-members c = c.connect-sets.auto.members
@@ -55,8 +55,8 @@ shape_of-rows c = c.choose-found.auto.rows
 pub shape_of-columns : goal.shape_of-columns
 shape_of-columns c = c.choose-found.auto.columns
 
-pub shape_of-rulings : goal.shape_of-rulings
-shape_of-rulings c = c.describe.auto.rulings
+pub shape_of-sizes : goal.shape_of-sizes
+shape_of-sizes c = c.describe.auto.sizes
 
 pub shape_of-shares : goal.shape_of-shares
 shape_of-shares c = c.describe.auto.shares
@@ -76,4 +76,4 @@ shape_of-keys c = c.describe.auto.keys ∙ c.choose-found.auto.keys ∙ c.connec
 pub returns : goal.returns
 returns c =
     let C = c.connect-sets.ensures in
-    filled c.args.rects.now c.args.directions.now c.args.chosen.now c.args.limits _ _ C (set_is _ _ _ C c.requires.roomy.members c.requires.roomy.ends) (read _ _ _ C c.requires.roomy.members c.requires.roomy.ends) c.choose-found.ensures c.describe.ensures
+    filled c.args.rulings.now.rects c.args.rulings.now.directions c.args.rulings.now.chosen c.args.limits _ _ C (set_is _ _ _ C c.requires.roomy.members c.requires.roomy.ends) (read _ _ _ C c.requires.roomy.members c.requires.roomy.ends) c.choose-found.ensures c.describe.ensures
