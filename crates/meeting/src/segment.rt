@@ -81,7 +81,7 @@ impl Rulings<'_> {
     }
 
     // The place of the ruling at an index.
-    pub fn place(&self, i: usize) -> usize
+    fn place(&self, i: usize) -> usize
         requires { i < length self.now.chosen }
         ensures { result ≡ get_or self.now.chosen i 0 }
     {

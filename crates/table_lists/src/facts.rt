@@ -1,16 +1,32 @@
 // Which sets are tables, what is found of each, and the free list.
 ghost use Rattle.std.specs.Prelude.{◌≡◌, ◌+◌, ◌*◌, ◌<◌, ◌≤◌, ◌^◌, length, take};
 ghost use Rattle.rects.specs.Around.{around};
-ghost use Rattle.sets.specs.Listing.{members_of};
 ghost use Rattle.meeting.specs.Segments.{ruling};
 ghost use Rattle.table_lists.specs.Answers.{places_of};
 ghost use Rattle.meeting.specs.Steps.{IndexesBelow};
-ghost use Rattle.table_lists.specs.Steps.{SetsIn, Numbers, Rooms, Chose, Bounded, Measured};
+ghost use Rattle.table_lists.specs.Steps.{set_of, SetsIn, Numbers, Rooms, Chose, Bounded, Measured};
 
 use junctions::ends;
 use meeting::segment::Rulings;
 use shapes::limits::Limits;
 use shapes::shape;
+
+// The sets of a listing: their members, where each ends among these, and how many there are.
+#[derive(Drop)]
+pub struct Sets<'a> {
+    pub members: &'a [u32],
+    pub ends: &'a [u32],
+    pub count: usize,
+}
+
+impl<'a> Sets<'a> {
+    // The members of one set.
+    fn at(&self, k: usize) -> &'a [u32]
+        ensures { result.now ≡ set_of self.now k }
+    {
+        listings::members_of(self.members, self.ends, self.count, k)
+    }
+}
 
 // How many tables there are, and how many free rulings.
 #[derive(Clone, Copy)]
@@ -23,9 +39,7 @@ pub struct Found {
 pub fn choose(
     rulings: &Rulings,
     limits: Limits,
-    members: &[u32],
-    ends: &[u32],
-    count: usize,
+    sets: &Sets,
     keys: &mut [u64],
     order: &mut [u32],
     work: &mut [u32],
@@ -34,11 +48,11 @@ pub fn choose(
     columns: &mut [u32],
     free: &mut [u32],
 ) -> Found
-    requires given { SetsIn (length rulings.now.chosen) (members_of members.now ends.now count) count }
+    requires given { SetsIn (length rulings.now.chosen) (set_of sets.now) sets.now.count }
     requires rooms { Rooms (length rulings.now.chosen) (length keys.old) (length order.old) (length work.old)
         (length numbers.old) (length rows.old) (length columns.old) (length free.old) }
     ensures { Chose limits (ruling rulings.now)
-        (members_of members.now ends.now count) count
+        (set_of sets.now) sets.now.count
         numbers.old rows.old columns.old free.old
         numbers.new rows.new columns.new free.new result.tables result.free }
 {
@@ -46,8 +60,8 @@ pub fn choose(
     let _ = &rulings.chosen;
     let mut tables = 0;
     let mut at = 0;
-    for k in 0..count {
-        let set = listings::members_of(members, ends, count, k);
+    for k in 0..sets.count {
+        let set = sets.at(k);
         let found = shape::shape_of(rulings, set, limits, keys, order, work);
         if found.table {
             numbers[tables] = k as u32;
@@ -74,22 +88,14 @@ fn around_set(rulings: &Rulings, set: &[u32]) -> rects::Rect
 }
 
 // Writes the smallest rectangle around each table.
-pub fn bound(
-    rulings: &Rulings,
-    members: &[u32],
-    ends: &[u32],
-    count: usize,
-    numbers: &[u32],
-    tables: usize,
-    out: &mut [u32],
-)
-    requires { SetsIn (length rulings.now.chosen) (members_of members.now ends.now count) count
-        × Numbers numbers.now tables count × (4 * tables ≤ length out.old) }
+pub fn bound(rulings: &Rulings, sets: &Sets, numbers: &[u32], tables: usize, out: &mut [u32])
+    requires { SetsIn (length rulings.now.chosen) (set_of sets.now) sets.now.count
+        × Numbers numbers.now tables sets.now.count × (4 * tables ≤ length out.old) }
     ensures { Bounded rulings.now.rects rulings.now.chosen
-        (members_of members.now ends.now count) (take tables numbers.now) out.old out.new }
+        (set_of sets.now) (take tables numbers.now) out.old out.new }
 {
     for t in 0..tables {
-        let set = listings::members_of(members, ends, count, numbers[t] as usize);
+        let set = sets.at(numbers[t] as usize);
         rects::put_rect(out, t, around_set(rulings, set));
     }
 }
@@ -98,9 +104,7 @@ pub fn bound(
 pub fn measure(
     rulings: &Rulings,
     join: u64,
-    members: &[u32],
-    ends: &[u32],
-    count: usize,
+    sets: &Sets,
     numbers: &[u32],
     tables: usize,
     sizes: &mut [u32],
@@ -109,17 +113,17 @@ pub fn measure(
     work: &mut [u32],
     keys: &mut [u64],
 )
-    requires join_bound { (join < 2 ^ 32) × SetsIn (length rulings.now.chosen) (members_of members.now ends.now count) count × Numbers numbers.now tables count }
+    requires join_bound { (join < 2 ^ 32) × SetsIn (length rulings.now.chosen) (set_of sets.now) sets.now.count × Numbers numbers.now tables sets.now.count }
     requires tables_in_bounds { (tables ≤ length sizes.old) × (tables ≤ length shares.old) }
     requires chosen_in_bounds { (length rulings.now.chosen ≤ length order.old) × (length rulings.now.chosen ≤ length work.old) × (length rulings.now.chosen ≤ length keys.old) }
     ensures { Measured join (ruling rulings.now)
-        (members_of members.now ends.now count) (take tables numbers.now)
+        (set_of sets.now) (take tables numbers.now)
         sizes.old shares.old sizes.new shares.new }
 {
     // Opened for the proof: at most 4,096 are chosen.
     let _ = &rulings.chosen;
     for t in 0..tables {
-        let set = listings::members_of(members, ends, count, numbers[t] as usize);
+        let set = sets.at(numbers[t] as usize);
         sizes[t] = set.len() as u32;
         shares[t] = ends::share(rulings, set, join, order, work, keys);
     }

@@ -1,21 +1,19 @@
 // Tables and free rulings among the chosen ones: the core, which asks for what the questions show.
 ghost use Rattle.std.specs.Prelude.{◌*◌, ◌^◌, ◌<◌, ◌≤◌, length, take};
-ghost use Rattle.sets.specs.Listing.{members_of};
-ghost use Rattle.table_lists.specs.Steps.{SetsIn, Numbers, FactsWritten};
+ghost use Rattle.table_lists.specs.Steps.{set_of, SetsIn, Numbers, FactsWritten};
 ghost use Rattle.tables.specs.Steps.{Filled, Roomy};
 
 use crossings::connect;
 use meeting::segment::Rulings;
 use shapes::limits::Limits;
 use table_lists::facts;
+use table_lists::facts::Sets;
 
 // Writes the smallest rectangle, the number of rulings and the joined share of each table. The last three lists are lent to sort in.
 fn describe(
     rulings: &Rulings,
     join: u64,
-    members: &[u32],
-    ends: &[u32],
-    count: usize,
+    sets: &Sets,
     numbers: &[u32],
     tables: usize,
     bounds: &mut [u32],
@@ -25,16 +23,16 @@ fn describe(
     work: &mut [u32],
     keys: &mut [u64],
 )
-    requires join_bound { (join < 2 ^ 32) × SetsIn (length rulings.now.chosen) (members_of members.now ends.now count) count × Numbers numbers.now tables count }
+    requires join_bound { (join < 2 ^ 32) × SetsIn (length rulings.now.chosen) (set_of sets.now) sets.now.count × Numbers numbers.now tables sets.now.count }
     requires tables_in_bounds { (4 * tables ≤ length bounds.old) × (tables ≤ length sizes.old) × (tables ≤ length shares.old) }
     requires chosen_in_bounds { (length rulings.now.chosen ≤ length order.old) × (length rulings.now.chosen ≤ length work.old) × (length rulings.now.chosen ≤ length keys.old) }
     ensures { FactsWritten join rulings.now.rects rulings.now.directions rulings.now.chosen
-        (members_of members.now ends.now count) (take tables numbers.now)
+        (set_of sets.now) (take tables numbers.now)
         bounds.old sizes.old shares.old bounds.new sizes.new shares.new }
 {
-    facts::bound(rulings, members, ends, count, numbers, tables, bounds);
+    facts::bound(rulings, sets, numbers, tables, bounds);
     facts::measure(
-        rulings, join, members, ends, count, numbers, tables, sizes, shares, order, work, keys,
+        rulings, join, sets, numbers, tables, sizes, shares, order, work, keys,
     );
 }
 
@@ -109,16 +107,19 @@ pub fn find(
         })
         result.sets result.tables result.free }
 {
-    let sets = connect::connect(rulings, limits.join, parents, work, keys, members, ends);
+    let count = connect::connect(rulings, limits.join, parents, work, keys, members, ends);
+    let sets = Sets {
+        members,
+        ends,
+        count,
+    };
     let found = facts::choose(
-        rulings, limits, members, ends, sets, keys, parents, work, numbers, rows, columns, free,
+        rulings, limits, &sets, keys, parents, work, numbers, rows, columns, free,
     );
     describe(
         rulings,
         limits.join,
-        members,
-        ends,
-        sets,
+        &sets,
         numbers,
         found.tables,
         bounds,
@@ -129,7 +130,7 @@ pub fn find(
         keys,
     );
     Counts {
-        sets,
+        sets: count,
         tables: found.tables,
         free: found.free,
     }

@@ -16,7 +16,7 @@ use Rattle.meeting.specs.Steps.{IndexesBelow}
 use Rattle.meeting.proofs.Rulings.{given_of}
 use Rattle.table_lists.proofs.Passes.{chose_none}
 use Rattle.table_lists.proofs.facts.choose.Invariants.{fits, known, low, moved, refused, table}
-use Rattle.table_lists.proofs.facts.choose.Goals.{In-loop-k, After-members_of-set, Then-found, then-found, else-found}
+use Rattle.table_lists.proofs.facts.choose.Goals.{In-loop-k, After-at-set, Then-found, then-found, else-found}
 use Rattle.table_lists.proofs.facts.choose.Goals as goal
 
 -- the lines of a table
@@ -39,18 +39,18 @@ two_lines {lim} {s} {xs} {h = h} {v} F e l =
 place : (c : In-loop-k) → c.loop-k.tables < length c.args.rulings.now.chosen
 place c = low c.requires.given c.loop-k.invariant c.loop-k-test.true
 
-members : (c : After-members_of-set) → IndexesBelow (length c.args.rulings.now.chosen) c.members_of-set.result.now
-members c = known c.requires.given c.loop-k.invariant c.loop-k-test.true c.members_of-set.ensures
+members : (c : After-at-set) → IndexesBelow (length c.args.rulings.now.chosen) c.at-set.result.now
+members c = known c.requires.given c.loop-k.invariant c.loop-k-test.true c.at-set.ensures
 
 lines : (c : Then-found) → Lines c.shape_of-found.result.row_lines c.shape_of-found.result.column_lines (length c.args.rulings.now.chosen)
-lines c = two_lines c.shape_of-found.ensures c.if-found.true (members (goal.at.Then-found c).After-members_of-set).short
+lines c = two_lines c.shape_of-found.ensures c.if-found.true (members (goal.at.Then-found c).After-at-set).short
 
 pub loop-k-init : goal.loop-k-init
 loop-k-init c = chose_none _ _ _ _ _ _ _
 
 pub shape_of-found-requires-in-loop-k : goal.shape_of-found-requires-in-loop-k
 shape_of-found-requires-in-loop-k c =
-    let m = members (goal.at.shape_of-found-requires-in-loop-k c).After-members_of-set in
+    let m = members (goal.at.shape_of-found-requires-in-loop-k c).After-at-set in
     let R = c.requires.rooms in
     (m, omega (arith, m.short, R.keys), omega (arith, m.short, R.order), omega (arith, m.short, R.work))
 
@@ -98,16 +98,16 @@ overflow_add-tables c = omega (arith, place (goal.at.overflow_add-tables c).In-l
 
 pub append-at-requires : goal.append-at-requires
 append-at-requires c =
-    omega (arith, fits c.requires.given c.loop-k.invariant c.loop-k-test.true c.members_of-set.ensures, c.requires.rooms.free)
+    omega (arith, fits c.requires.given c.loop-k.invariant c.loop-k-test.true c.at-set.ensures, c.requires.rooms.free)
 
 pub loop-k-preserved : goal.loop-k-preserved
 loop-k-preserved c =
     let S = c.requires.given in
     let R = c.requires.rooms in
     elim c.if-found.branch [
-      | then-found w ↦ moved (table S c.loop-k.invariant c.loop-k-test.true c.members_of-set.ensures R c.shape_of-found.ensures w.if-found.true) w.numbers-is w.rows-is w.columns-is w.free-is w.tables-is w.at-is
-      | else-found w ↦ moved (refused S c.loop-k.invariant c.loop-k-test.true c.members_of-set.ensures R c.shape_of-found.ensures w.if-found.false w.append-at.ensures.0 w.append-at.ensures.1) w.numbers-is w.rows-is w.columns-is w.free-is w.tables-is w.at-is
+      | then-found w ↦ moved (table S c.loop-k.invariant c.loop-k-test.true c.at-set.ensures R c.shape_of-found.ensures w.if-found.true) w.numbers-is w.rows-is w.columns-is w.free-is w.tables-is w.at-is
+      | else-found w ↦ moved (refused S c.loop-k.invariant c.loop-k-test.true c.at-set.ensures R c.shape_of-found.ensures w.if-found.false w.append-at.ensures.0 w.append-at.ensures.1) w.numbers-is w.rows-is w.columns-is w.free-is w.tables-is w.at-is
     ]
 
 pub returns : goal.returns
-returns c = let end : c.loop-k.k ≡ c.args.count = omega arith in rw end at c.loop-k.invariant
+returns c = let end : c.loop-k.k ≡ c.args.sets.now.count = omega arith in rw end at c.loop-k.invariant
