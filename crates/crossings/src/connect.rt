@@ -95,7 +95,9 @@ fn join_row(
     }
 }
 
-// Joins every two rulings that touch.
+// Joins every two rulings that touch. It is not inlined: within `tables` the inner loop has too few registers for its lists, and 4,096 that all cross
+// take nearly twice as long.
+#[inline(never)]
 fn join_all(rulings: &Rulings, keys: &[u64], order: &[u32], join: u64, parents: &mut [u32])
     requires { (join < 2 ^ 32) × RulingsOrdered (ruling rulings.now) (length rulings.now.chosen) keys.now order.now
         × Room (length rulings.now.chosen) parents.old }
