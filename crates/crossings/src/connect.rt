@@ -3,13 +3,12 @@
 ghost use Rattle.std.specs.Prelude.{◌≡◌, true, ◌+◌, ◌<◌, ◌≤◌, ◌^◌, length};
 ghost use Rattle.sets.specs.Closed.{Below};
 ghost use Rattle.sets.specs.Steps.{Joins, Joined, Parents, Room};
-ghost use Rattle.meeting.specs.Segments.{ruling_at, span_holds};
+ghost use Rattle.meeting.specs.Segments.{ruling, span_holds};
 ghost use Rattle.meeting.specs.Meeting.{Touch};
-ghost use Rattle.meeting.specs.Steps.{Given};
 ghost use Rattle.crossings.specs.Steps.{cross_key, first_centre, last_centre, RulingsKeyed, RulingsOrdered, Tried, Connected};
 
 use meeting::segment;
-use meeting::segment::Segment;
+use meeting::segment::{Rulings, Segment};
 
 // Where a ruling stands in the order: a horizontal one by its doubled centre, and a vertical one behind all of these.
 fn key_of(a: Segment) -> u64
@@ -38,39 +37,30 @@ fn last_key(b: Segment, join: u64) -> u64
 }
 
 // Writes the key of each ruling.
-fn write_keys(rects: &[u32], directions: &[u32], chosen: &[u32], keys: &mut [u64])
-    requires { Given rects.now directions.now chosen.now × (length chosen.now ≤ length keys.old) }
-    ensures { RulingsKeyed (ruling_at rects.now directions.now chosen.now) (length chosen.now)
+fn write_keys(rulings: &Rulings, keys: &mut [u64])
+    requires { length rulings.now.chosen ≤ length keys.old }
+    ensures { RulingsKeyed (ruling rulings.now) (length rulings.now.chosen)
         keys.new }
 {
-    for k in 0..chosen.len() {
-        keys[k] = key_of(segment::ruling_at(rects, directions, chosen, k));
+    for k in 0..rulings.len() {
+        keys[k] = key_of(rulings.at(k));
     }
 }
 
 // Joins the rulings at two indexes, of which the second is horizontal, if its span holds the given centre. Two with the same parent are one
 // already.
-fn join_held(
-    rects: &[u32],
-    directions: &[u32],
-    chosen: &[u32],
-    join: u64,
-    parents: &mut [u32],
-    centre2: u32,
-    i: usize,
-    j: usize,
-)
-    requires join_bound { (join < 2 ^ 32) × Given rects.now directions.now chosen.now × Parents (length chosen.now) parents.old
-        × (i < length chosen.now) × (j < length chosen.now) }
-    requires j_value { (ruling_at rects.now directions.now chosen.now j).horizontal ≡ true }
-    ensures { Joined (length chosen.now) parents.old i j
-        (span_holds join (ruling_at rects.now directions.now chosen.now j) centre2) parents.new }
+fn join_held(rulings: &Rulings, join: u64, parents: &mut [u32], centre2: u32, i: usize, j: usize)
+    requires join_bound { (join < 2 ^ 32) × Parents (length rulings.now.chosen) parents.old
+        × (i < length rulings.now.chosen) × (j < length rulings.now.chosen) }
+    requires j_value { (ruling rulings.now j).horizontal ≡ true }
+    ensures { Joined (length rulings.now.chosen) parents.old i j
+        (span_holds join (ruling rulings.now j) centre2) parents.new }
 {
     if parents[i] != parents[j] {
-        let a = segment::horizontal_at(rects, directions, chosen, j);
+        let a = rulings.horizontal_at(j);
         sets::join_if(
             parents,
-            chosen.len(),
+            rulings.len(),
             i,
             j,
             segment::span_holds(a, centre2, join),
@@ -80,72 +70,51 @@ fn join_held(
 
 // Joins the ruling at index i, if it is vertical, with every horizontal one that it touches: those that cross its widened span stand together.
 fn join_row(
-    rects: &[u32],
-    directions: &[u32],
-    chosen: &[u32],
+    rulings: &Rulings,
     keys: &[u64],
     order: &[u32],
     join: u64,
     parents: &mut [u32],
     i: usize,
 )
-    requires join_bound { (join < 2 ^ 32) × Given rects.now directions.now chosen.now
-        × RulingsOrdered (ruling_at rects.now directions.now chosen.now) (length chosen.now) keys.now order.now
-        × (i < length chosen.now) }
-    requires joins { Joins (length chosen.now) (Below (length chosen.now)) (Tried join (ruling_at rects.now directions.now chosen.now) i) parents.old }
-    ensures { Joins (length chosen.now) (Below (length chosen.now))
-        (Tried join (ruling_at rects.now directions.now chosen.now) (i + 1)) parents.new }
+    requires join_bound { (join < 2 ^ 32) × RulingsOrdered (ruling rulings.now) (length rulings.now.chosen) keys.now order.now
+        × (i < length rulings.now.chosen) }
+    requires joins { Joins (length rulings.now.chosen) (Below (length rulings.now.chosen)) (Tried join (ruling rulings.now) i) parents.old }
+    ensures { Joins (length rulings.now.chosen) (Below (length rulings.now.chosen))
+        (Tried join (ruling rulings.now) (i + 1)) parents.new }
 {
-    let n = chosen.len();
-    let b = segment::ruling_at(rects, directions, chosen, i);
+    let n = rulings.len();
+    let b = rulings.at(i);
     if b.horizontal {
         return;
     }
     let past = sorted::first_at_least(keys, order, n, last_key(b, join) + 1);
     let first = sorted::first_at_least(keys, order, n, first_key(b, join));
     for k in first..past {
-        join_held(
-            rects,
-            directions,
-            chosen,
-            join,
-            parents,
-            b.centre2,
-            i,
-            order[k] as usize,
-        );
+        join_held(rulings, join, parents, b.centre2, i, order[k] as usize);
     }
 }
 
-// Joins every two rulings that touch.
-fn join_all(
-    rects: &[u32],
-    directions: &[u32],
-    chosen: &[u32],
-    keys: &[u64],
-    order: &[u32],
-    join: u64,
-    parents: &mut [u32],
-)
-    requires { (join < 2 ^ 32) × Given rects.now directions.now chosen.now
-        × RulingsOrdered (ruling_at rects.now directions.now chosen.now) (length chosen.now) keys.now order.now
-        × Room (length chosen.now) parents.old }
-    ensures { Joins (length chosen.now) (Below (length chosen.now))
-        (Touch join (ruling_at rects.now directions.now chosen.now)) parents.new }
+// Joins every two rulings that touch. It is not inlined: within `tables` the inner loop has too few registers for its lists, and 4,096 that all cross
+// take nearly twice as long.
+#[inline(never)]
+fn join_all(rulings: &Rulings, keys: &[u64], order: &[u32], join: u64, parents: &mut [u32])
+    requires { (join < 2 ^ 32) × RulingsOrdered (ruling rulings.now) (length rulings.now.chosen) keys.now order.now
+        × Room (length rulings.now.chosen) parents.old }
+    ensures { Joins (length rulings.now.chosen) (Below (length rulings.now.chosen))
+        (Touch join (ruling rulings.now)) parents.new }
 {
-    let n = chosen.len();
+    let n = rulings.len();
     sets::begin(parents, n);
     for i in 0..n {
-        join_row(rects, directions, chosen, keys, order, join, parents, i);
+        join_row(rulings, keys, order, join, parents, i);
     }
 }
 
 // Lists the closed sets of the chosen rulings, and returns how many there are. The rulings are put in order in `members`, before the sets are
 // listed there, by way of the parents, before these are begun.
 pub fn connect(
-    rects: &[u32],
-    directions: &[u32],
-    chosen: &[u32],
+    rulings: &Rulings,
     join: u64,
     parents: &mut [u32],
     work: &mut [u32],
@@ -153,14 +122,14 @@ pub fn connect(
     members: &mut [u32],
     ends: &mut [u32],
 ) -> usize
-    requires join_bound { (join < 2 ^ 32) × Given rects.now directions.now chosen.now × (length chosen.now ≤ length parents.old)
-        × (length chosen.now ≤ length work.old) × (length chosen.now ≤ length keys.old) }
-    requires chosen_in_bounds { (length chosen.now ≤ length members.old) × (length chosen.now ≤ length ends.old) }
-    ensures { Connected join (ruling_at rects.now directions.now chosen.now) (length chosen.now)
+    requires join_bound { (join < 2 ^ 32) × (length rulings.now.chosen ≤ length parents.old)
+        × (length rulings.now.chosen ≤ length work.old) × (length rulings.now.chosen ≤ length keys.old) }
+    requires chosen_in_bounds { (length rulings.now.chosen ≤ length members.old) × (length rulings.now.chosen ≤ length ends.old) }
+    ensures { Connected join (ruling rulings.now) (length rulings.now.chosen)
         members.old ends.old members.new ends.new result }
 {
-    write_keys(rects, directions, chosen, keys);
-    sorted::arrange(keys, chosen.len(), members, parents);
-    join_all(rects, directions, chosen, keys, members, join, parents);
-    listings::list(parents, chosen.len(), members, ends, work)
+    write_keys(rulings, keys);
+    sorted::arrange(keys, rulings.len(), members, parents);
+    join_all(rulings, keys, members, join, parents);
+    listings::list(parents, rulings.len(), members, ends, work)
 }

@@ -2,13 +2,12 @@
 // only against those that are near enough.
 ghost use Rattle.std.specs.Prelude.{◌≡◌, ◌+◌, ◌<◌, ◌≤◌, ◌^◌, length};
 ghost use Rattle.lists.specs.Lists.{any, one};
-ghost use Rattle.meeting.specs.Segments.{ruling_at, joins_end};
+ghost use Rattle.meeting.specs.Segments.{ruling, joins_end};
 ghost use Rattle.meeting.specs.Meeting.{end_joined, joined_ends, share_of};
-ghost use Rattle.meeting.specs.Steps.{Given, IndexesBelow};
+ghost use Rattle.meeting.specs.Steps.{IndexesBelow};
 ghost use Rattle.junctions.specs.Steps.{centre_key, first_key, last_key, MembersKeyed, MembersOrdered};
 
-use meeting::segment;
-use meeting::segment::Segment;
+use meeting::segment::{Rulings, Segment};
 
 // Where a ruling stands among the members of its set.
 fn key_of(a: Segment) -> u64
@@ -35,20 +34,18 @@ fn last_key(a: Segment, end: u32, join: u64) -> u64
 }
 
 // Writes the key of each member of the set.
-fn write_keys(rects: &[u32], directions: &[u32], chosen: &[u32], set: &[u32], keys: &mut [u64])
-    requires { Given rects.now directions.now chosen.now × IndexesBelow (length chosen.now) set.now × (length set.now ≤ length keys.old) }
-    ensures { MembersKeyed (ruling_at rects.now directions.now chosen.now) set.now keys.new }
+fn write_keys(rulings: &Rulings, set: &[u32], keys: &mut [u64])
+    requires { IndexesBelow (length rulings.now.chosen) set.now × (length set.now ≤ length keys.old) }
+    ensures { MembersKeyed (ruling rulings.now) set.now keys.new }
 {
     for (k, i) in set.iter().enumerate() {
-        keys[k] = key_of(segment::ruling_at(rects, directions, chosen, *i as usize));
+        keys[k] = key_of(rulings.at(*i as usize));
     }
 }
 
 // Is an end of ruling a joined by a member of the set? Only those with a key between the first and the last can join it.
 fn joined(
-    rects: &[u32],
-    directions: &[u32],
-    chosen: &[u32],
+    rulings: &Rulings,
     set: &[u32],
     keys: &[u64],
     order: &[u32],
@@ -56,9 +53,9 @@ fn joined(
     a: Segment,
     end: u32,
 ) -> bool
-    requires { (join < 2 ^ 32) × Given rects.now directions.now chosen.now × IndexesBelow (length chosen.now) set.now
-        × MembersOrdered (ruling_at rects.now directions.now chosen.now) set.now keys.now order.now }
-    ensures { result ≡ any (λ j. joins_end join end a (ruling_at rects.now directions.now chosen.now j)) set.now }
+    requires { (join < 2 ^ 32) × IndexesBelow (length rulings.now.chosen) set.now
+        × MembersOrdered (ruling rulings.now) set.now keys.now order.now }
+    ensures { result ≡ any (λ j. joins_end join end a (ruling rulings.now j)) set.now }
 {
     let n = set.len();
     let last = last_key(a, end, join);
@@ -68,7 +65,7 @@ fn joined(
         if last < keys[m] {
             return false;
         }
-        if segment::joined_by(rects, directions, chosen, end, a, set[m] as usize, join) {
+        if rulings.joined_by(end, a, set[m] as usize, join) {
             return true;
         }
     }
@@ -77,76 +74,55 @@ fn joined(
 
 // How many of the two ends of the ruling at index i are joined by members of the set.
 fn joined_of(
-    rects: &[u32],
-    directions: &[u32],
-    chosen: &[u32],
+    rulings: &Rulings,
     set: &[u32],
     keys: &[u64],
     order: &[u32],
     join: u64,
     i: usize,
 ) -> usize
-    requires { (join < 2 ^ 32) × Given rects.now directions.now chosen.now × IndexesBelow (length chosen.now) set.now
-        × MembersOrdered (ruling_at rects.now directions.now chosen.now) set.now keys.now order.now × (i < length chosen.now) }
-    ensures { result ≡ one (end_joined join (ruling_at rects.now directions.now chosen.now) set.now
-        (ruling_at rects.now directions.now chosen.now i).start i)
-        + one (end_joined join (ruling_at rects.now directions.now chosen.now) set.now
-        (ruling_at rects.now directions.now chosen.now i).end i) }
+    requires { (join < 2 ^ 32) × IndexesBelow (length rulings.now.chosen) set.now
+        × MembersOrdered (ruling rulings.now) set.now keys.now order.now × (i < length rulings.now.chosen) }
+    ensures { result ≡ one (end_joined join (ruling rulings.now) set.now
+        (ruling rulings.now i).start i)
+        + one (end_joined join (ruling rulings.now) set.now
+        (ruling rulings.now i).end i) }
 {
-    let a = segment::ruling_at(rects, directions, chosen, i);
-    let start = joined(
-        rects, directions, chosen, set, keys, order, join, a, a.start,
-    );
-    let end = joined(rects, directions, chosen, set, keys, order, join, a, a.end);
+    let a = rulings.at(i);
+    let start = joined(rulings, set, keys, order, join, a, a.start);
+    let end = joined(rulings, set, keys, order, join, a, a.end);
     usize::from(start) + usize::from(end)
 }
 
-fn joined_ends(
-    rects: &[u32],
-    directions: &[u32],
-    chosen: &[u32],
-    set: &[u32],
-    keys: &[u64],
-    order: &[u32],
-    join: u64,
-) -> usize
-    requires { (join < 2 ^ 32) × Given rects.now directions.now chosen.now × IndexesBelow (length chosen.now) set.now
-        × MembersOrdered (ruling_at rects.now directions.now chosen.now) set.now keys.now order.now }
-    ensures { result ≡ joined_ends join (ruling_at rects.now directions.now chosen.now) set.now }
+fn joined_ends(rulings: &Rulings, set: &[u32], keys: &[u64], order: &[u32], join: u64) -> usize
+    requires { (join < 2 ^ 32) × IndexesBelow (length rulings.now.chosen) set.now
+        × MembersOrdered (ruling rulings.now) set.now keys.now order.now }
+    ensures { result ≡ joined_ends join (ruling rulings.now) set.now }
 {
     let mut joined = 0;
     for i in set {
-        joined += joined_of(
-            rects,
-            directions,
-            chosen,
-            set,
-            keys,
-            order,
-            join,
-            *i as usize,
-        );
+        joined += joined_of(rulings, set, keys, order, join, *i as usize);
     }
     joined
 }
 
 // Joined ends over all ends. The last three lists are lent to sort in, with a place for each member of the set.
 pub fn share(
-    rects: &[u32],
-    directions: &[u32],
-    chosen: &[u32],
+    rulings: &Rulings,
     set: &[u32],
     join: u64,
     order: &mut [u32],
     work: &mut [u32],
     keys: &mut [u64],
 ) -> f64
-    requires join_bound { (join < 2 ^ 32) × Given rects.now directions.now chosen.now × IndexesBelow (length chosen.now) set.now }
+    requires join_bound { (join < 2 ^ 32) × IndexesBelow (length rulings.now.chosen) set.now }
     requires set_in_bounds { (length set.now ≤ length order.old) × (length set.now ≤ length work.old) × (length set.now ≤ length keys.old) }
-    ensures { result ≡ share_of join (ruling_at rects.now directions.now chosen.now) set.now }
+    ensures { result ≡ share_of join (ruling rulings.now) set.now }
 {
-    write_keys(rects, directions, chosen, set, keys);
+    // Opened for the proof: at most 4,096 are chosen, so that both counts are exact as floats.
+    let _ = &rulings.chosen;
+    write_keys(rulings, set, keys);
     sorted::arrange(keys, set.len(), order, work);
-    let joined = joined_ends(rects, directions, chosen, set, keys, order, join);
+    let joined = joined_ends(rulings, set, keys, order, join);
     joined as f64 / (2 * set.len()) as f64
 }

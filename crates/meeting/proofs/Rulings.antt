@@ -1,20 +1,14 @@
 -- One ruling and two: what the questions give of each, and that touching goes both ways.
-use mathlib.Core.Path.{◌≡◌, refl, ap, ◌∙◌}
+use mathlib.Core.Path.{◌≡◌, refl, ap, ◌∙◌, subst}
 use mathlib.Core.Bool.{Bool, true, false, cond, not, ◌&&◌}
 use mathlib.Core.List.{List}
-use Prim.Native.Nat.{ℕ, ◌+◌, ◌<◌, ◌^◌}
-use native.Mathlib.Omega.{arith}
+use Prim.Native.Nat.{ℕ, ◌<◌}
 use lib.ListN.{length, get_or}
 use Rattle.lists.proofs.Keep.{at_in}
-use Rattle.rects.specs.declared.Rect.{Rect}
-use Rattle.rects.specs.Rects.{rect_at}
 use Rattle.meeting.specs.declared.segment.Segment.{Segment}
+use Rattle.meeting.specs.Chosen.{Rulings}
 use Rattle.meeting.specs.Segments.{opposite, span_holds, touches}
 use Rattle.meeting.specs.Steps.{Given, IndexesBelow}
-
-pub sums_fit : {rects directions chosen : List ℕ} → Given rects directions chosen → (i : ℕ) → i < length chosen → (r : Rect) → r ≡ rect_at rects (get_or chosen i 0)
-    → (r.x0 + r.x1 < 2 ^ 32) × (r.y0 + r.y1 < 2 ^ 32)
-sums_fit G i l r e = let I = G.inside i l in rw e (omega (arith, I.wide, I.right), omega (arith, I.high, I.bottom))
 
 -- the member at a place of a set
 pub member_within : {n : ℕ} (set : List ℕ) → IndexesBelow n set → (k : ℕ) → k < length set → get_or set k 0 < n
@@ -38,3 +32,7 @@ unfolding touches
 touches_comm join a b =
     swapped (opposite a b) (span_holds join a b.centre2) (span_holds join b a.centre2)
     ∙ ap (λ (o : Bool). o && span_holds join b a.centre2 && span_holds join a b.centre2) (either_way a.horizontal b.horizontal)
+
+-- what the rulings keep, said of their lists
+pub given_of : {v r : Rulings} → v ≡ r → Given v.rects v.directions v.chosen → Given r.rects r.directions r.chosen
+given_of e G = subst (λ (r : Rulings). Given r.rects r.directions r.chosen) e G

@@ -3,6 +3,7 @@ use Rattle.std.specs.Prelude.{Bool, true, false, cond, not, ◌&&◌, List, ℕ,
 use Rattle.rects.specs.declared.Rect.{Rect}
 use Rattle.rects.specs.Rects.{rect_at, distance}
 use Rattle.meeting.specs.declared.segment.Segment.{Segment}
+use Rattle.meeting.specs.Chosen.{Rulings}
 
 -- A ruling by its rectangle and its direction, 0 for horizontal: its span along it, and its doubled centre, the sum of its two cross coordinates.
 unfoldable pub segment_of : Rect → ℕ → Segment
@@ -13,6 +14,10 @@ segment_of r d =
 -- The ruling at each index: an index is a place among the chosen ones.
 abbrev pub ruling_at : List ℕ → List ℕ → List ℕ → ℕ → Segment
 ruling_at rects directions chosen i = segment_of (rect_at rects (get_or chosen i 0)) (get_or directions (get_or chosen i 0) 0)
+
+-- The same of the rulings given together.
+abbrev pub ruling : Rulings → ℕ → Segment
+ruling r i = ruling_at r.rects r.directions r.chosen i
 
 -- One is horizontal and the other vertical.
 abbrev pub opposite : Segment → Segment → Bool

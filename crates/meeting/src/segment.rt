@@ -1,8 +1,12 @@
 // A ruling as other rulings meet it.
-ghost use Rattle.std.specs.Prelude.{◌≡◌, true, ◌+◌, ◌-◌, ◌<◌, ◌^◌, length};
-ghost use Rattle.meeting.specs.Segments.{segment_of, ruling_at, opposite, span_holds, joins_end};
-ghost use Rattle.rects.specs.Rects.{distance};
+ghost use Rattle.std.specs.Prelude.{◌≡◌, true, ◌+◌, ◌-◌, ◌<◌, ◌^◌, length, get_or};
+ghost use Rattle.meeting.specs.Chosen as Chosen;
+ghost use Rattle.meeting.specs.Segments.{segment_of, ruling, opposite, span_holds, joins_end};
+ghost use Rattle.rects.specs.Rects.{rect_at, distance};
+ghost use Rattle.rects.specs.Steps.{Inside};
 ghost use Rattle.meeting.specs.Steps.{Given};
+
+use std::marker::Model;
 
 // The span along the ruling, and twice its centre across, so that it stays whole.
 #[derive(Clone, Copy)]
@@ -33,25 +37,6 @@ fn segment_of(r: rects::Rect, direction: u32) -> Segment
     }
 }
 
-// The ruling at an index, which is a place among the chosen ones.
-pub fn ruling_at(rects: &[u32], directions: &[u32], chosen: &[u32], i: usize) -> Segment
-    requires { Given rects.now directions.now chosen.now × (i < length chosen.now) }
-    ensures { result ≡ ruling_at rects.now directions.now chosen.now i }
-{
-    let place = chosen[i] as usize;
-    segment_of(rects::rect_at(rects, place), directions[place])
-}
-
-// The same for a horizontal ruling, whose direction need not be read.
-pub fn horizontal_at(rects: &[u32], directions: &[u32], chosen: &[u32], i: usize) -> Segment
-    requires { Given rects.now directions.now chosen.now × (i < length chosen.now)
-        × ((ruling_at rects.now directions.now chosen.now i).horizontal ≡ true) }
-    ensures { result ≡ ruling_at rects.now directions.now chosen.now i }
-{
-    let place = chosen[i] as usize;
-    segment_of(rects::rect_at(rects, place), 0)
-}
-
 // Does a doubled place lie within twice the span, widened by the limit? A horizontal and a vertical touch, the Rust's `meet`, where each holds the other's
 // doubled centre.
 pub fn span_holds(a: Segment, c: u32, join: u64) -> bool
@@ -71,23 +56,80 @@ fn joins_end(end: u32, a: Segment, b: Segment, join: u64) -> bool
     near & span_holds(b, a.centre2, join)
 }
 
-// Does the ruling at index j join the end of ruling a? Its direction is asked before its rectangle is read.
-pub fn joined_by(
-    rects: &[u32],
-    directions: &[u32],
-    chosen: &[u32],
-    end: u32,
-    a: Segment,
-    j: usize,
-    join: u64,
-) -> bool
-    requires { (join < 2 ^ 32) × Given rects.now directions.now chosen.now × (j < length chosen.now) }
-    ensures { result ≡ joins_end join end a (ruling_at rects.now directions.now chosen.now j) }
-{
-    let place = chosen[j] as usize;
-    if (directions[place] == 0) == a.horizontal {
-        return false;
+// The rulings that are looked at: the rectangle and the direction of each ruling, and the places of the chosen ones. An index is a place among these.
+#[derive(Drop)]
+pub struct Rulings<'a> {
+    pub rects: &'a [u32],
+    pub directions: &'a [u32],
+    pub chosen: &'a [u32],
+}
+
+impl<'a> Model for Rulings<'a> {
+    ghost Value = { Chosen.Rulings };
+
+    ghost view = { λ r. record { rects = r.rects.now; directions = r.directions.now; chosen = r.chosen.now } };
+
+    ghost invariant = { λ r. Given r.rects.now r.directions.now r.chosen.now };
+}
+
+impl Rulings<'_> {
+    // How many are chosen.
+    pub fn len(&self) -> usize
+        ensures { (result ≡ length self.now.chosen) × Given self.now.rects self.now.directions self.now.chosen }
+    {
+        self.chosen.len()
     }
-    let b = ruling_at(rects, directions, chosen, j);
-    joins_end(end, a, b, join)
+
+    // The place of the ruling at an index.
+    fn place(&self, i: usize) -> usize
+        requires { i < length self.now.chosen }
+        ensures { result ≡ get_or self.now.chosen i 0 }
+    {
+        let chosen = self.chosen;
+        chosen[i] as usize
+    }
+
+    // Its rectangle.
+    pub fn rect_at(&self, i: usize) -> rects::Rect
+        requires { i < length self.now.chosen }
+        ensures { (result ≡ rect_at self.now.rects (get_or self.now.chosen i 0)) × Inside 8192 8192 result }
+    {
+        rects::rect_at(self.rects, self.place(i))
+    }
+
+    // Its direction, 0 for horizontal.
+    fn direction(&self, i: usize) -> u32
+        requires { i < length self.now.chosen }
+        ensures { result ≡ get_or self.now.directions (get_or self.now.chosen i 0) 0 }
+    {
+        let directions = self.directions;
+        directions[self.place(i)]
+    }
+
+    // The ruling itself.
+    pub fn at(&self, i: usize) -> Segment
+        requires { i < length self.now.chosen }
+        ensures { result ≡ ruling self.now i }
+    {
+        segment_of(self.rect_at(i), self.direction(i))
+    }
+
+    // The same for a horizontal ruling, whose direction need not be read.
+    pub fn horizontal_at(&self, i: usize) -> Segment
+        requires { (i < length self.now.chosen) × ((ruling self.now i).horizontal ≡ true) }
+        ensures { result ≡ ruling self.now i }
+    {
+        segment_of(self.rect_at(i), 0)
+    }
+
+    // Does the ruling at index j join the end of ruling a? Its direction is asked before its rectangle is read.
+    pub fn joined_by(&self, end: u32, a: Segment, j: usize, join: u64) -> bool
+        requires { (join < 2 ^ 32) × (j < length self.now.chosen) }
+        ensures { result ≡ joins_end join end a (ruling self.now j) }
+    {
+        if (self.direction(j) == 0) == a.horizontal {
+            return false;
+        }
+        joins_end(end, a, self.at(j), join)
+    }
 }

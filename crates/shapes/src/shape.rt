@@ -1,13 +1,12 @@
 // The shape of a set: how many rulings and lines it has each way.
 ghost use Rattle.std.specs.Prelude.{◌≡◌, true, false, ◌&&◌, ◌≤◌, leb, length};
-ghost use Rattle.meeting.specs.Segments.{ruling_at};
+ghost use Rattle.meeting.specs.Segments.{ruling};
 ghost use Rattle.shapes.specs.Shapes.{in_direction};
-ghost use Rattle.meeting.specs.Steps.{Given, IndexesBelow};
+ghost use Rattle.meeting.specs.Steps.{IndexesBelow};
 ghost use Rattle.shapes.specs.Steps.{Collected, LinesCounted, Shaped};
 
 use crate::limits::Limits;
-use meeting::segment;
-use meeting::segment::Segment;
+use meeting::segment::{Rulings, Segment};
 
 fn in_direction(a: Segment, horizontal: bool) -> bool
     ensures { result ≡ in_direction horizontal a }
@@ -17,21 +16,14 @@ fn in_direction(a: Segment, horizontal: bool) -> bool
 
 // Writes the line positions of the set's rulings in a direction, and returns how many there are. What is written for a ruling
 // of the other direction is overwritten by the next.
-fn collect(
-    rects: &[u32],
-    directions: &[u32],
-    chosen: &[u32],
-    set: &[u32],
-    horizontal: bool,
-    keys: &mut [u64],
-) -> usize
-    requires { Given rects.now directions.now chosen.now × IndexesBelow (length chosen.now) set.now × (length set.now ≤ length keys.old) }
-    ensures { Collected horizontal (ruling_at rects.now directions.now chosen.now) set.now
+fn collect(rulings: &Rulings, set: &[u32], horizontal: bool, keys: &mut [u64]) -> usize
+    requires { IndexesBelow (length rulings.now.chosen) set.now × (length set.now ≤ length keys.old) }
+    ensures { Collected horizontal (ruling rulings.now) set.now
         keys.new result }
 {
     let mut n = 0;
     for i in set {
-        let a = segment::ruling_at(rects, directions, chosen, *i as usize);
+        let a = rulings.at(*i as usize);
         keys[n] = u64::from(a.centre2 / 2);
         n += usize::from(in_direction(a, horizontal));
     }
@@ -46,9 +38,7 @@ pub struct Count {
 }
 
 fn count_lines(
-    rects: &[u32],
-    directions: &[u32],
-    chosen: &[u32],
+    rulings: &Rulings,
     set: &[u32],
     horizontal: bool,
     cluster: u64,
@@ -56,12 +46,14 @@ fn count_lines(
     order: &mut [u32],
     work: &mut [u32],
 ) -> Count
-    requires { Given rects.now directions.now chosen.now × IndexesBelow (length chosen.now) set.now × (length set.now ≤ length keys.old)
+    requires { IndexesBelow (length rulings.now.chosen) set.now × (length set.now ≤ length keys.old)
         × (length set.now ≤ length order.old) × (length set.now ≤ length work.old) }
-    ensures { LinesCounted cluster horizontal (ruling_at rects.now directions.now chosen.now) set.now
+    ensures { LinesCounted cluster horizontal (ruling rulings.now) set.now
         result.rulings result.lines }
 {
-    let n = collect(rects, directions, chosen, set, horizontal, keys);
+    // Opened for the proof: at most 4,096 are chosen.
+    let _ = &rulings.chosen;
+    let n = collect(rulings, set, horizontal, keys);
     let lines = lines::lines(&keys[..n], cluster, order, work);
     Count { rulings: n, lines }
 }
@@ -85,42 +77,20 @@ pub struct Shape {
 }
 
 pub fn shape_of(
-    rects: &[u32],
-    directions: &[u32],
-    chosen: &[u32],
+    rulings: &Rulings,
     set: &[u32],
     limits: Limits,
     keys: &mut [u64],
     order: &mut [u32],
     work: &mut [u32],
 ) -> Shape
-    requires { Given rects.now directions.now chosen.now × IndexesBelow (length chosen.now) set.now × (length set.now ≤ length keys.old)
+    requires { IndexesBelow (length rulings.now.chosen) set.now × (length set.now ≤ length keys.old)
         × (length set.now ≤ length order.old) × (length set.now ≤ length work.old) }
-    ensures { Shaped limits (ruling_at rects.now directions.now chosen.now) set.now result.table
+    ensures { Shaped limits (ruling rulings.now) set.now result.table
         result.row_lines result.column_lines }
 {
-    let h = count_lines(
-        rects,
-        directions,
-        chosen,
-        set,
-        true,
-        limits.cluster,
-        keys,
-        order,
-        work,
-    );
-    let v = count_lines(
-        rects,
-        directions,
-        chosen,
-        set,
-        false,
-        limits.cluster,
-        keys,
-        order,
-        work,
-    );
+    let h = count_lines(rulings, set, true, limits.cluster, keys, order, work);
+    let v = count_lines(rulings, set, false, limits.cluster, keys, order, work);
     Shape {
         table: is_table(limits, h, v),
         row_lines: h.lines,

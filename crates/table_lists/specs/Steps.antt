@@ -8,6 +8,12 @@ use Rattle.shapes.specs.Shapes.{rows_of, columns_of}
 use Rattle.meeting.specs.Meeting.{share_of}
 use Rattle.table_lists.specs.Answers.{table_numbers, free_list, bounds_of}
 use Rattle.meeting.specs.Steps.{IndexesBelow}
+use Rattle.sets.specs.Listing.{members_of}
+use Rattle.table_lists.specs.declared.facts.Sets.{Sets}
+
+-- The set of each number below the count of a listing.
+abbrev pub set_of : Sets → ℕ → List ℕ
+set_of s = members_of s.members.now s.ends.now s.count
 
 -- The sets below a count: not empty, within the indexes below n, and no more of both than n.
 pub record SetsIn (n : ℕ) (set : ℕ → List ℕ) (count : ℕ) : Type 0 where

@@ -11,6 +11,7 @@ ghost use Rattle.page.specs.Lent.{list_at};
 ghost use Rattle.page.specs.Steps.{Only, Kept};
 ghost use Rattle.table_stages.specs.Steps.{PartsLong};
 
+use meeting::segment::Rulings;
 use params::settings::RulingsParams;
 use tables::inner::Counts;
 
@@ -84,23 +85,14 @@ fn tables_of(
         result.sets result.tables result.free }
 {
     let limits = shapes::limits::limits_of(p, xheight);
+    let printed = Rulings {
+        rects: &rects[..4 * n],
+        directions: &directions[..n],
+        chosen: &printed[..k],
+    };
     tables::inner::find(
-        &rects[..4 * n],
-        &directions[..n],
-        &printed[..k],
-        limits,
-        members,
-        ends,
-        numbers,
-        bounds,
-        rows,
-        columns,
-        rulings,
-        shares,
-        free,
-        parents,
-        order,
-        keys,
+        &printed, limits, members, ends, numbers, bounds, rows, columns, rulings, shares, free,
+        parents, order, keys,
     )
 }
 

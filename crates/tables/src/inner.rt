@@ -1,46 +1,38 @@
 // Tables and free rulings among the chosen ones: the core, which asks for what the questions show.
 ghost use Rattle.std.specs.Prelude.{◌*◌, ◌^◌, ◌<◌, ◌≤◌, length, take};
-ghost use Rattle.sets.specs.Listing.{members_of};
-ghost use Rattle.meeting.specs.Steps.{Given};
-ghost use Rattle.table_lists.specs.Steps.{SetsIn, Numbers, FactsWritten};
+ghost use Rattle.table_lists.specs.Steps.{set_of, SetsIn, Numbers, FactsWritten};
 ghost use Rattle.tables.specs.Steps.{Filled, Roomy};
 
 use crossings::connect;
+use meeting::segment::Rulings;
 use shapes::limits::Limits;
 use table_lists::facts;
+use table_lists::facts::Sets;
 
 // Writes the smallest rectangle, the number of rulings and the joined share of each table. The last three lists are lent to sort in.
 fn describe(
-    rects: &[u32],
-    directions: &[u32],
-    chosen: &[u32],
+    rulings: &Rulings,
     join: u64,
-    members: &[u32],
-    ends: &[u32],
-    count: usize,
+    sets: &Sets,
     numbers: &[u32],
     tables: usize,
     bounds: &mut [u32],
-    rulings: &mut [u32],
+    sizes: &mut [u32],
     shares: &mut [f64],
     order: &mut [u32],
     work: &mut [u32],
     keys: &mut [u64],
 )
-    requires join_bound { (join < 2 ^ 32) × Given rects.now directions.now chosen.now
-        × SetsIn (length chosen.now) (members_of members.now ends.now count) count × Numbers numbers.now tables count }
-    requires tables_in_bounds { (4 * tables ≤ length bounds.old) × (tables ≤ length rulings.old) × (tables ≤ length shares.old) }
-    requires chosen_in_bounds { (length chosen.now ≤ length order.old) × (length chosen.now ≤ length work.old) × (length chosen.now ≤ length keys.old) }
-    ensures { FactsWritten join rects.now directions.now chosen.now
-        (members_of members.now ends.now count) (take tables numbers.now)
-        bounds.old rulings.old shares.old bounds.new rulings.new shares.new }
+    requires join_bound { (join < 2 ^ 32) × SetsIn (length rulings.now.chosen) (set_of sets.now) sets.now.count × Numbers numbers.now tables sets.now.count }
+    requires tables_in_bounds { (4 * tables ≤ length bounds.old) × (tables ≤ length sizes.old) × (tables ≤ length shares.old) }
+    requires chosen_in_bounds { (length rulings.now.chosen ≤ length order.old) × (length rulings.now.chosen ≤ length work.old) × (length rulings.now.chosen ≤ length keys.old) }
+    ensures { FactsWritten join rulings.now.rects rulings.now.directions rulings.now.chosen
+        (set_of sets.now) (take tables numbers.now)
+        bounds.old sizes.old shares.old bounds.new sizes.new shares.new }
 {
-    facts::bound(
-        rects, directions, chosen, members, ends, count, numbers, tables, bounds,
-    );
+    facts::bound(rulings, sets, numbers, tables, bounds);
     facts::measure(
-        rects, directions, chosen, join, members, ends, count, numbers, tables, rulings, shares,
-        order, work, keys,
+        rulings, join, sets, numbers, tables, sizes, shares, order, work, keys,
     );
 }
 
@@ -54,9 +46,7 @@ pub struct Counts {
 
 // Lists the closed sets of the chosen rulings, and of them the tables with their facts, and the free list.
 pub fn find(
-    rects: &[u32],
-    directions: &[u32],
-    chosen: &[u32],
+    rulings: &Rulings,
     limits: Limits,
     members: &mut [u32],
     ends: &mut [u32],
@@ -64,29 +54,29 @@ pub fn find(
     bounds: &mut [u32],
     rows: &mut [u32],
     columns: &mut [u32],
-    rulings: &mut [u32],
+    sizes: &mut [u32],
     shares: &mut [f64],
     free: &mut [u32],
     parents: &mut [u32],
     work: &mut [u32],
     keys: &mut [u64],
 ) -> Counts
-    requires join_bound { (limits.join < 2 ^ 32) × Given rects.now directions.now chosen.now }
-    requires roomy { Roomy (length chosen.now) (record {
+    requires join_bound { limits.join < 2 ^ 32 }
+    requires roomy { Roomy (length rulings.now.chosen) (record {
       members = members.old;
       ends = ends.old;
       numbers = numbers.old;
       bounds = bounds.old;
       rows = rows.old;
       columns = columns.old;
-      rulings = rulings.old;
+      rulings = sizes.old;
       shares = shares.old;
       free = free.old;
       parents = parents.old;
       work = work.old;
       keys = keys.old;
     }) }
-    ensures { Filled rects.now directions.now chosen.now limits
+    ensures { Filled rulings.now.rects rulings.now.directions rulings.now.chosen limits
         (record {
           members = members.old;
           ends = ends.old;
@@ -94,7 +84,7 @@ pub fn find(
           bounds = bounds.old;
           rows = rows.old;
           columns = columns.old;
-          rulings = rulings.old;
+          rulings = sizes.old;
           shares = shares.old;
           free = free.old;
           parents = parents.old;
@@ -108,7 +98,7 @@ pub fn find(
           bounds = bounds.new;
           rows = rows.new;
           columns = columns.new;
-          rulings = rulings.new;
+          rulings = sizes.new;
           shares = shares.new;
           free = free.new;
           parents = parents.new;
@@ -117,40 +107,30 @@ pub fn find(
         })
         result.sets result.tables result.free }
 {
-    let sets = connect::connect(
-        rects,
-        directions,
-        chosen,
-        limits.join,
-        parents,
-        work,
-        keys,
+    let count = connect::connect(rulings, limits.join, parents, work, keys, members, ends);
+    let sets = Sets {
         members,
         ends,
-    );
+        count,
+    };
     let found = facts::choose(
-        rects, directions, chosen, limits, members, ends, sets, keys, parents, work, numbers, rows,
-        columns, free,
+        rulings, limits, &sets, keys, parents, work, numbers, rows, columns, free,
     );
     describe(
-        rects,
-        directions,
-        chosen,
+        rulings,
         limits.join,
-        members,
-        ends,
-        sets,
+        &sets,
         numbers,
         found.tables,
         bounds,
-        rulings,
+        sizes,
         shares,
         parents,
         work,
         keys,
     );
     Counts {
-        sets,
+        sets: count,
         tables: found.tables,
         free: found.free,
     }

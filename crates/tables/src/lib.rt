@@ -5,6 +5,7 @@ pub mod inner;
 
 ghost use Rattle.tables.specs.Call.{Tables};
 
+use meeting::segment::Rulings;
 use params::settings::RulingsParams;
 use table_questions::guard;
 
@@ -105,23 +106,14 @@ pub fn tables(
     }
     sets::begin(chosen, n);
     let limits = shapes::limits::limits_of(p, xheight);
-    let found = inner::find(
+    let all = Rulings {
         rects,
         directions,
-        &chosen[..n],
-        limits,
-        members,
-        ends,
-        numbers,
-        bounds,
-        rows,
-        columns,
-        rulings,
-        shares,
-        free,
-        parents,
-        work,
-        keys,
+        chosen: &chosen[..n],
+    };
+    let found = inner::find(
+        &all, limits, members, ends, numbers, bounds, rows, columns, rulings, shares, free,
+        parents, work, keys,
     );
     Answer {
         number: 0,

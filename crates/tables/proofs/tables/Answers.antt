@@ -57,19 +57,22 @@ begin-requires c = let P = known (goal.at.begin-requires c).Else-number-ne0 in r
 pub limits_of-limits-requires : goal.limits_of-limits-requires
 limits_of-limits-requires c = (known (goal.at.limits_of-limits-requires c).Else-number-ne0).settled
 
-pub slice_bounds-find-end : goal.slice_bounds-find-end
-slice_bounds-find-end c = kept_room (known (goal.at.slice_bounds-find-end c).Else-number-ne0).chosen c.begin.auto.parents
+pub slice_bounds-all-end : goal.slice_bounds-all-end
+slice_bounds-all-end c = kept_room (known (goal.at.slice_bounds-all-end c).Else-number-ne0).chosen c.begin.auto.parents
 
-pub slice_bounds-find-end-2 : goal.slice_bounds-find-end-2
-slice_bounds-find-end-2 c =
-    sym (length-take-le (count c.args.rects.now) c.begin.new.parents (kept_room (known (goal.at.slice_bounds-find-end-2 c).Else-number-ne0).chosen c.begin.auto.parents))
+pub slice_bounds-all-end-2 : goal.slice_bounds-all-end-2
+slice_bounds-all-end-2 c =
+    sym (length-take-le (count c.args.rects.now) c.begin.new.parents (kept_room (known (goal.at.slice_bounds-all-end-2 c).Else-number-ne0).chosen c.begin.auto.parents))
+
+pub invariant_of-all : goal.invariant_of-all
+invariant_of-all c = given_all (count c.args.rects.now) c.args.chosen.now c.begin.ensures (known (goal.at.invariant_of-all c).Else-number-ne0).given
 
 pub find-found-requires : goal.find-found-requires
 find-found-requires c =
     let P = known (goal.at.find-found-requires c).Else-number-ne0 in
     let n = count c.args.rects.now in
     let all = c.begin.ensures in record {
-      join_bound = (join_of c.args.p c.args.xheight c.limits_of-limits.ensures P.settled, given_all n c.args.chosen.now all P.given);
+      join_bound = join_of c.args.p c.args.xheight c.limits_of-limits.ensures P.settled;
       roomy = roomy_all (lists_of (lent (goal.at.find-found-requires c).Start)) P.roomy (all_chosen n c.args.chosen.now all);
     }
 
@@ -92,7 +95,7 @@ pub shape_of-columns : goal.shape_of-columns
 shape_of-columns c = c.find-found.auto.columns
 
 pub shape_of-rulings : goal.shape_of-rulings
-shape_of-rulings c = c.find-found.auto.rulings
+shape_of-rulings c = c.find-found.auto.sizes
 
 pub shape_of-shares : goal.shape_of-shares
 shape_of-shares c = c.find-found.auto.shares

@@ -12,7 +12,7 @@ use Rattle.sets.specs.Listing.{ends_from}
 use Rattle.sets.proofs.Listings.{joins_closed_sets}
 use Rattle.sets.proofs.Sizes.{classes_total, classes_room}
 use Rattle.meeting.specs.declared.segment.Segment.{Segment}
-use Rattle.meeting.specs.Segments.{ruling_at}
+use Rattle.meeting.specs.Segments.{ruling}
 use Rattle.meeting.specs.Meeting.{touch, Touch}
 use Rattle.crossings.specs.Steps.{Connected}
 use Rattle.sorted.proofs.Arranged.{written_over}
@@ -37,16 +37,16 @@ kept_room : {n a b : ℕ} → n ≤ a → b ≡ a → n ≤ b
 kept_room h e = omega arith
 
 pub write_keys-requires : goal.write_keys-requires
-write_keys-requires c = (c.requires.join_bound.1, c.requires.join_bound.4)
+write_keys-requires c = c.requires.join_bound.3
 
 pub join_all-requires : goal.join_all-requires
 join_all-requires c =
-    (c.requires.join_bound.0, c.requires.join_bound.1, record { keyed = c.write_keys.ensures; ordered = c.arrange.ensures.0 }, room c.requires.join_bound.2 c.arrange.auto.work c.requires.join_bound.1.few)
+    (c.requires.join_bound.0, record { keyed = c.write_keys.ensures; ordered = rw c.len.ensures.0 at c.arrange.ensures.0 }, room c.requires.join_bound.1 c.arrange.auto.work c.len.ensures.1.few)
 
 pub list-requires : goal.list-requires
 list-requires c =
-    (c.join_all.ensures.parents, kept_room c.requires.chosen_in_bounds.0 c.arrange.auto.order, c.requires.chosen_in_bounds.1, c.requires.join_bound.3)
+    rw c.len-2.ensures.0 (c.join_all.ensures.parents, kept_room c.requires.chosen_in_bounds.0 c.arrange.auto.order, c.requires.chosen_in_bounds.1, c.requires.join_bound.2)
 
 pub returns : goal.returns
 returns c =
-    listed c.args.join (ruling_at c.args.rects.now c.args.directions.now c.args.chosen.now) c.args.members.now c.join_all.ensures c.arrange.ensures.1 c.list.ensures
+    listed c.args.join (ruling c.args.rulings.now) c.args.members.now c.join_all.ensures (rw c.len.ensures.0 at c.arrange.ensures.1) (rw c.len-2.ensures.0 at c.list.ensures)

@@ -21,13 +21,13 @@ asked : {n : ℕ} {p q : List ℕ} {i j : ℕ} {t : Bool} (join c : ℕ) {a a' :
 asked join c e f J = rw (sym (f ∙ ap (λ (x : Segment). span_holds join x c) e)) J
 
 pub horizontal_at-a-requires : goal.horizontal_at-a-requires
-horizontal_at-a-requires c = (c.requires.join_bound.1, c.requires.join_bound.4, c.requires.j_value)
+horizontal_at-a-requires c = (c.requires.join_bound.3, c.requires.j_value)
 
 pub span_holds-requires : goal.span_holds-requires
 span_holds-requires c = c.requires.join_bound.0
 
 pub returns-then-parents-i : goal.returns-then-parents-i
-returns-then-parents-i c = asked c.args.join c.args.centre2 c.horizontal_at-a.ensures c.span_holds.ensures c.join_if.ensures
+returns-then-parents-i c = asked c.args.join c.args.centre2 c.horizontal_at-a.ensures c.span_holds.ensures (rw c.len.ensures.0 at c.join_if.ensures)
 
 pub returns-else-parents-i : goal.returns-else-parents-i
-returns-else-parents-i c = one_parent _ c.requires.join_bound.2 c.requires.join_bound.3 c.requires.join_bound.4 c.if-parents-i.false
+returns-else-parents-i c = one_parent _ c.requires.join_bound.1 c.requires.join_bound.2 c.requires.join_bound.3 c.if-parents-i.false

@@ -5,12 +5,12 @@ use mathlib.Core.Bool.{true, false}
 use mathlib.Core.List.{List}
 use Prim.Native.Nat.{ℕ, ◌+◌, ◌≤◌, ◌<◌}
 use native.Mathlib.Omega.{arith}
-use lib.ListN.{get_or}
+use lib.ListN.{length, get_or}
 use Rattle.sets.specs.Closed.{Below}
 use Rattle.sets.specs.Steps.{Joins, Joined}
 use Rattle.sorted.specs.Steps.{FirstAtLeast}
 use Rattle.meeting.specs.declared.segment.Segment.{Segment}
-use Rattle.meeting.specs.Segments.{ruling_at, span_holds}
+use Rattle.meeting.specs.Segments.{ruling, span_holds}
 use Rattle.crossings.specs.Steps.{first_centre, last_centre, RulingsOrdered, Tried}
 use Rattle.crossings.proofs.Crossing.{InRow, row_none, row_begin, row_next, row_end}
 use Rattle.crossings.proofs.Spans.{touches_held, between, far_before, all_met}
@@ -67,4 +67,4 @@ module _ (join : ℕ) (s : ℕ → Segment) (n : ℕ) (keys order : List ℕ) wh
   lying e h J = row_none join s n (ap (λ (x : Segment). x.horizontal) (sym e) ∙ h) J
 
 abbrev pub invariant-loop-k : goal.invariant-loop-k
-invariant-loop-k l = Row l.join (ruling_at l.rects l.directions l.chosen) l.n l.keys l.order l.i l.b l.past l.first l.parents l.k
+invariant-loop-k l = Row l.join (ruling l.rulings) (length l.rulings.chosen) l.keys l.order l.i l.b l.past l.first l.parents l.k

@@ -4,7 +4,7 @@ use Prim.Native.Nat.{ℕ}
 use lib.ListN.{length}
 use Rattle.sorted.proofs.Writing.{Writing}
 use Rattle.meeting.specs.declared.segment.Segment.{Segment}
-use Rattle.meeting.specs.Segments.{ruling_at}
+use Rattle.meeting.specs.Segments.{ruling}
 use Rattle.crossings.specs.Steps.{cross_key}
 use Rattle.crossings.proofs.connect.write_keys.Given as goal
 
@@ -16,4 +16,4 @@ module _ (s : ℕ → Segment) where
   read i e f = f ∙ ap cross_key e
 
 abbrev pub invariant-loop-k : goal.invariant-loop-k
-invariant-loop-k l = Writing (ruling_key_lem (ruling_at l.rects l.directions l.chosen)) (length l.chosen) l.initial.keys l.keys l.k
+invariant-loop-k l = Writing (ruling_key_lem (ruling l.rulings)) (length l.rulings.chosen) l.initial.keys l.keys l.k

@@ -6,7 +6,7 @@ use native.Mathlib.Omega.{arith}
 use borrow.Author.Rules.{scaled_Fits}
 use lib.ListN.{length, get_or}
 use Rattle.sorted.specs.Steps.{FirstAtLeast}
-use Rattle.meeting.specs.Segments.{ruling_at}
+use Rattle.meeting.specs.Segments.{ruling}
 use Rattle.meeting.proofs.Rulings.{member_within}
 use Rattle.junctions.proofs.Searching.{search_begin, search_turn, search_stop, search_end, search_found}
 use Rattle.junctions.proofs.ends.joined.Goals as goal
@@ -25,53 +25,53 @@ pub first_key-requires : goal.first_key-requires
 first_key-requires c = c.requires.0
 
 pub first_at_least-first-requires : goal.first_at_least-first-requires
-first_at_least-first-requires c = c.requires.3.ordered
+first_at_least-first-requires c = c.requires.2.ordered
 
 pub loop-k-init : goal.loop-k-init
 loop-k-init c =
-    search_begin c.args.join (ruling_at c.args.rects.now c.args.directions.now c.args.chosen.now) c.args.set.now c.args.a c.args.end c.requires.3 (from_first c.first_key.ensures c.first_at_least-first.ensures)
+    search_begin c.args.join (ruling c.args.rulings.now) c.args.set.now c.args.a c.args.end c.requires.2 (from_first c.first_key.ensures c.first_at_least-first.ensures)
 
 pub offset_bounds-order-k : goal.offset_bounds-order-k
 offset_bounds-order-k c =
-    scaled_Fits c.loop-k.k (length c.args.order.now) 4 (omega (arith, c.loop-k-test.true, c.requires.3.ordered.order_room)) c.well_formed.1.1.1.1.1.0.1
+    scaled_Fits c.loop-k.k (length c.args.order.now) 4 (omega (arith, c.loop-k-test.true, c.requires.2.ordered.order_room)) c.well_formed.1.1.1.0.1
 
 pub bounds-order-k : goal.bounds-order-k
-bounds-order-k c = omega (arith, c.loop-k-test.true, c.requires.3.ordered.order_room)
+bounds-order-k c = omega (arith, c.loop-k-test.true, c.requires.2.ordered.order_room)
 
 pub overflow_cast-m : goal.overflow_cast-m
-overflow_cast-m c = omega (arith, c.requires.3.ordered.known c.loop-k.k c.loop-k-test.true, c.requires.3.ordered.small)
+overflow_cast-m c = omega (arith, c.requires.2.ordered.known c.loop-k.k c.loop-k-test.true, c.requires.2.ordered.small)
 
 pub offset_bounds-keys-m : goal.offset_bounds-keys-m
-offset_bounds-keys-m c = omega (arith, c.requires.3.ordered.known c.loop-k.k c.loop-k-test.true, c.requires.3.ordered.small)
+offset_bounds-keys-m c = omega (arith, c.requires.2.ordered.known c.loop-k.k c.loop-k-test.true, c.requires.2.ordered.small)
 
 pub bounds-keys-m : goal.bounds-keys-m
-bounds-keys-m c = omega (arith, c.requires.3.ordered.known c.loop-k.k c.loop-k-test.true, c.requires.3.ordered.keys_room)
+bounds-keys-m c = omega (arith, c.requires.2.ordered.known c.loop-k.k c.loop-k-test.true, c.requires.2.ordered.keys_room)
 
 pub returns-then-last-keys : goal.returns-then-last-keys
 returns-then-last-keys c =
-    search_stop c.args.join (ruling_at c.args.rects.now c.args.directions.now c.args.chosen.now) c.args.set.now c.args.a c.args.end c.requires.3 c.loop-k.invariant c.loop-k-test.true (past_last c.last_key-last.ensures c.if-last-keys.true)
+    search_stop c.args.join (ruling c.args.rulings.now) c.args.set.now c.args.a c.args.end c.requires.2 c.loop-k.invariant c.loop-k-test.true (past_last c.last_key-last.ensures c.if-last-keys.true)
 
 pub offset_bounds-set-m : goal.offset_bounds-set-m
-offset_bounds-set-m c = omega (arith, c.requires.3.ordered.known c.loop-k.k c.loop-k-test.true, c.requires.3.ordered.small)
+offset_bounds-set-m c = omega (arith, c.requires.2.ordered.known c.loop-k.k c.loop-k-test.true, c.requires.2.ordered.small)
 
 pub bounds-set-m : goal.bounds-set-m
-bounds-set-m c = c.requires.3.ordered.known c.loop-k.k c.loop-k-test.true
+bounds-set-m c = c.requires.2.ordered.known c.loop-k.k c.loop-k-test.true
 
 pub overflow_cast-set : goal.overflow_cast-set
 overflow_cast-set c = omega (arith, c.shared_slice_known-in-loop-k-3-1.given (get_or c.args.order.now c.loop-k.k 0))
 
 pub joined_by-requires : goal.joined_by-requires
 joined_by-requires c =
-    (c.requires.0, c.requires.1, member_within c.args.set.now c.requires.2 (get_or c.args.order.now c.loop-k.k 0) (c.requires.3.ordered.known c.loop-k.k c.loop-k-test.true))
+    (c.requires.0, member_within c.args.set.now c.requires.1 (get_or c.args.order.now c.loop-k.k 0) (c.requires.2.ordered.known c.loop-k.k c.loop-k-test.true))
 
 pub returns-then-joined_by : goal.returns-then-joined_by
 returns-then-joined_by c =
-    search_found c.args.join (ruling_at c.args.rects.now c.args.directions.now c.args.chosen.now) c.args.set.now c.args.a c.args.end c.requires.3 c.loop-k-test.true (sym c.joined_by.ensures ∙ c.if-joined_by.true)
+    search_found c.args.join (ruling c.args.rulings.now) c.args.set.now c.args.a c.args.end c.requires.2 c.loop-k-test.true (sym c.joined_by.ensures ∙ c.if-joined_by.true)
 
 pub loop-k-preserved : goal.loop-k-preserved
 loop-k-preserved c =
-    search_turn c.args.join (ruling_at c.args.rects.now c.args.directions.now c.args.chosen.now) c.args.set.now c.args.a c.args.end c.requires.3 c.loop-k.invariant c.loop-k-test.true (sym c.joined_by.ensures ∙ c.if-joined_by.false)
+    search_turn c.args.join (ruling c.args.rulings.now) c.args.set.now c.args.a c.args.end c.requires.2 c.loop-k.invariant c.loop-k-test.true (sym c.joined_by.ensures ∙ c.if-joined_by.false)
 
 pub returns : goal.returns
 returns c =
-    search_end c.args.join (ruling_at c.args.rects.now c.args.directions.now c.args.chosen.now) c.args.set.now c.args.a c.args.end c.requires.3 c.loop-k.invariant c.loop-k-test.false
+    search_end c.args.join (ruling c.args.rulings.now) c.args.set.now c.args.a c.args.end c.requires.2 c.loop-k.invariant c.loop-k-test.false

@@ -7,7 +7,7 @@ use native.Mathlib.Omega.{arith}
 use lib.ListN.{length, get_or, drop}
 use Rattle.lists.specs.Lists.{one, keep}
 use Rattle.meeting.specs.declared.segment.Segment.{Segment}
-use Rattle.meeting.specs.Segments.{ruling_at}
+use Rattle.meeting.specs.Segments.{ruling}
 use Rattle.meeting.specs.Meeting.{end_joined, joined_ends}
 use Rattle.junctions.proofs.Joining.{kept_step, kept_end, one_le}
 use Rattle.junctions.proofs.ends.joined_ends.Given as goal
@@ -41,4 +41,4 @@ module _ (join : ℕ) (s : ℕ → Segment) (set : List ℕ) where
   few i e = omega (arith, one_le (starts i), one_le (stops i))
 
 abbrev pub invariant-loop-i : goal.invariant-loop-i
-invariant-loop-i l = Counted l.join (ruling_at l.rects l.directions l.chosen) l.set l.joined l.i-index
+invariant-loop-i l = Counted l.join (ruling l.rulings) l.set l.joined l.i-index

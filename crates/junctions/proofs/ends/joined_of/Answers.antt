@@ -6,7 +6,7 @@ use Prim.Native.Nat.{ℕ, ◌+◌}
 use Rattle.std.specs.Int.{from_bool}
 use Rattle.lists.specs.Lists.{one, any}
 use Rattle.meeting.specs.declared.segment.Segment.{Segment}
-use Rattle.meeting.specs.Segments.{ruling_at, joins_end}
+use Rattle.meeting.specs.Segments.{ruling, joins_end}
 use Rattle.meeting.specs.Meeting.{end_joined}
 use Rattle.junctions.proofs.ends.joined_of.Goals as goal
 
@@ -26,4 +26,4 @@ module _ (join : ℕ) (s : ℕ → Segment) (set : List ℕ) (i : ℕ) where
 
 pub returns : goal.returns
 returns c =
-    counted c.args.join (ruling_at c.args.rects.now c.args.directions.now c.args.chosen.now) c.args.set.now c.args.i c.ruling_at-a.ensures c.joined-start.ensures c.joined-end.ensures (ap₂ ◌+◌ (c.from.ensures ∙ one_number c.joined-start.result) (c.from-2.ensures ∙ one_number c.joined-end.result))
+    counted c.args.join (ruling c.args.rulings.now) c.args.set.now c.args.i c.at-a.ensures c.joined-start.ensures c.joined-end.ensures (ap₂ ◌+◌ (c.from.ensures ∙ one_number c.joined-start.result) (c.from-2.ensures ∙ one_number c.joined-end.result))

@@ -8,8 +8,9 @@ use lib.Ieee.{binary64, div, of_int}
 use lib.ListN.{length}
 use Rattle.math.proofs.Sums.{as_float}
 use Rattle.meeting.specs.declared.segment.Segment.{Segment}
-use Rattle.meeting.specs.Segments.{ruling_at}
+use Rattle.meeting.specs.Segments.{ruling}
 use Rattle.meeting.specs.Meeting.{joined_ends, share_of}
+use Rattle.meeting.proofs.Rulings.{given_of}
 use Rattle.junctions.proofs.Bound.{joined_le}
 use Rattle.junctions.proofs.ends.share.Goals as goal
 
@@ -22,24 +23,24 @@ unfolding share_of
 one_division join s set e = ap (λ (k : ℕ). div binary64 (of_int binary64 (pos k)) (of_int binary64 (pos (2 * length set)))) e
 
 pub write_keys-requires : goal.write_keys-requires
-write_keys-requires c = (c.requires.join_bound.1, c.requires.join_bound.2, c.requires.set_in_bounds.2)
+write_keys-requires c = (c.requires.join_bound.1, c.requires.set_in_bounds.2)
 
 pub joined_ends-joined-requires : goal.joined_ends-joined-requires
 joined_ends-joined-requires c =
-    (c.requires.join_bound.0, c.requires.join_bound.1, c.requires.join_bound.2, record { keyed = c.write_keys.ensures; ordered = c.arrange.ensures.0 })
+    (c.requires.join_bound.0, c.requires.join_bound.1, record { keyed = c.write_keys.ensures; ordered = c.arrange.ensures.0 })
 
 pub int_to_float-result : goal.int_to_float-result
 int_to_float-result c =
-    as_float c.joined_ends-joined.result (small c.args.join (ruling_at c.args.rects.now c.args.directions.now c.args.chosen.now) c.args.set.now c.joined_ends-joined.ensures (omega (arith, c.requires.join_bound.2.short, c.requires.join_bound.1.few)))
+    as_float c.joined_ends-joined.result (small c.args.join (ruling c.args.rulings.now) c.args.set.now c.joined_ends-joined.ensures (omega (arith, c.requires.join_bound.1.short, (given_of c.rulings.view_is c.rulings.invariant).few)))
 
 pub overflow_mul-result : goal.overflow_mul-result
 overflow_mul-result c =
-    omega (arith, c.requires.join_bound.2.short, c.requires.join_bound.1.few)
+    omega (arith, c.requires.join_bound.1.short, (given_of c.rulings.view_is c.rulings.invariant).few)
 
 pub int_to_float-result-2 : goal.int_to_float-result-2
 int_to_float-result-2 c =
-    as_float (2 * length c.args.set.now) (omega (arith, c.requires.join_bound.2.short, c.requires.join_bound.1.few))
+    as_float (2 * length c.args.set.now) (omega (arith, c.requires.join_bound.1.short, (given_of c.rulings.view_is c.rulings.invariant).few))
 
 pub returns : goal.returns
 returns c =
-    one_division c.args.join (ruling_at c.args.rects.now c.args.directions.now c.args.chosen.now) c.args.set.now c.joined_ends-joined.ensures
+    one_division c.args.join (ruling c.args.rulings.now) c.args.set.now c.joined_ends-joined.ensures

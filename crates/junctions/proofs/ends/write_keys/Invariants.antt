@@ -5,7 +5,7 @@ use Prim.Native.Nat.{ℕ}
 use lib.ListN.{length, get_or}
 use Rattle.sorted.proofs.Writing.{Writing}
 use Rattle.meeting.specs.declared.segment.Segment.{Segment}
-use Rattle.meeting.specs.Segments.{ruling_at}
+use Rattle.meeting.specs.Segments.{ruling}
 use Rattle.junctions.specs.Steps.{centre_key}
 use Rattle.junctions.proofs.ends.write_keys.Given as goal
 
@@ -18,4 +18,4 @@ module _ (s : ℕ → Segment) (set : List ℕ) where
   read k e f = f ∙ ap centre_key e
 
 abbrev pub invariant-loop-k : goal.invariant-loop-k
-invariant-loop-k l = Writing (member_key (ruling_at l.rects l.directions l.chosen) l.set) (length l.set) l.initial.keys l.keys l.k
+invariant-loop-k l = Writing (member_key (ruling l.rulings) l.set) (length l.set) l.initial.keys l.keys l.k

@@ -6,7 +6,7 @@ use Prim.Native.Nat.{ℕ, ◌+◌, ◌/◌, ◌≤◌, ◌<◌}
 use Rattle.std.specs.Int.{from_bool}
 use lib.ListN.{length, get_or, set}
 use Rattle.meeting.specs.declared.segment.Segment.{Segment}
-use Rattle.meeting.specs.Segments.{ruling_at}
+use Rattle.meeting.specs.Segments.{ruling}
 use Rattle.shapes.specs.Shapes.{in_direction}
 use Rattle.shapes.specs.Steps.{Collected}
 use Rattle.meeting.proofs.Collecting.{Gathering, gather_turn, gather_end}
@@ -28,4 +28,4 @@ module _ (h : Bool) (s : ℕ → Segment) (members : List ℕ) where
       record { count = r.0; keys = r.1; short = r.2 }
 
 abbrev pub invariant-loop-i : goal.invariant-loop-i
-invariant-loop-i l = Walk l.horizontal (ruling_at l.rects l.directions l.chosen) l.set l.keys l.n l.i-index
+invariant-loop-i l = Walk l.horizontal (ruling l.rulings) l.set l.keys l.n l.i-index

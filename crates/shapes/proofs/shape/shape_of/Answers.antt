@@ -7,7 +7,7 @@ use lib.Dec.{leb}
 use native.Mathlib.Omega.{arith}
 use Rattle.meeting.specs.declared.segment.Segment.{Segment}
 use Rattle.shapes.specs.declared.limits.Limits.{Limits}
-use Rattle.meeting.specs.Segments.{ruling_at}
+use Rattle.meeting.specs.Segments.{ruling}
 use Rattle.shapes.specs.Shapes.{is_table}
 use Rattle.shapes.specs.Steps.{LinesCounted, Shaped}
 use Rattle.shapes.proofs.shape.shape_of.Goals as goal
@@ -33,8 +33,8 @@ count_lines-h-requires c = c.requires
 
 pub count_lines-v-requires : goal.count_lines-v-requires
 count_lines-v-requires c =
-    (c.requires.0, c.requires.1, omega (arith, c.requires.2, c.count_lines-h.auto.keys), omega (arith, c.requires.3, c.count_lines-h.auto.order), omega (arith, c.requires.4, c.count_lines-h.auto.work))
+    (c.requires.0, omega (arith, c.requires.1, c.count_lines-h.auto.keys), omega (arith, c.requires.2, c.count_lines-h.auto.order), omega (arith, c.requires.3, c.count_lines-h.auto.work))
 
 pub returns : goal.returns
 returns c =
-    shaped c.args.limits (ruling_at c.args.rects.now c.args.directions.now c.args.chosen.now) c.args.set.now c.count_lines-h.ensures c.count_lines-v.ensures c.is_table.ensures
+    shaped c.args.limits (ruling c.args.rulings.now) c.args.set.now c.count_lines-h.ensures c.count_lines-v.ensures c.is_table.ensures

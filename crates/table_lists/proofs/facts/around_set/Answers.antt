@@ -3,7 +3,6 @@ use mathlib.Core.Path.{◌≡◌, sym, ap, ◌∙◌}
 use mathlib.Core.List.{List}
 use Prim.Native.Nat.{ℕ, ◌+◌, ◌-◌, ◌≤◌, ◌<◌}
 use native.Mathlib.Omega.{arith}
-use borrow.Author.Rules.{scaled_Fits}
 use lib.ListN.{length, get_or, take, drop, length-map}
 use Rattle.std.proofs.lemmas.List.{get_or-take, get_or-drop, length-take, length-drop}
 use Rattle.lists.proofs.Keep.{get_d_map}
@@ -52,53 +51,35 @@ module _ (rects chosen set : List ℕ) where
   done {r} {k} W h = sym (unioned_all rects r places k (rw size h)) ∙ W
 
 pub bounds-set-0 : goal.bounds-set-0
-bounds-set-0 c = c.requires.2
-
-pub overflow_cast-first : goal.overflow_cast-first
-overflow_cast-first c = omega (arith, c.shared_slice_known-5-1.given 0)
-
-pub offset_bounds-chosen-set : goal.offset_bounds-chosen-set
-offset_bounds-chosen-set c =
-    scaled_Fits (get_or c.args.set.now 0 0) (length c.args.chosen.now) 4 (member_within c.args.set.now c.requires.1 0 c.requires.2) c.well_formed.1.1.0.1
-
-pub bounds-chosen-set : goal.bounds-chosen-set
-bounds-chosen-set c =
-    member_within c.args.set.now c.requires.1 0 c.requires.2
-
-pub overflow_cast-first-2 : goal.overflow_cast-first-2
-overflow_cast-first-2 c = omega (arith, c.shared_slice_known-6-1.given (get_or c.args.set.now 0 0))
+bounds-set-0 c = c.requires.1
 
 pub rect_at-r-requires : goal.rect_at-r-requires
-rect_at-r-requires c =
-    c.requires.0.rect (get_or c.args.set.now 0 0) (member_within c.args.set.now c.requires.1 0 c.requires.2)
+rect_at-r-requires c = member_within c.args.set.now c.requires.0 0 c.requires.1
 
 -- the member that is read, and that it is one of the chosen
-member : (c : In-loop-i) → get_or (rest c.args.rects.now c.args.chosen.now c.args.set.now) c.loop-i.i-index 0 ≡ get_or c.args.set.now (c.loop-i.i-index + 1) 0
-member c = rest_at c.args.rects.now c.args.chosen.now c.args.set.now c.loop-i.i-index c.loop-i-test.true
+member : (c : In-loop-i) → get_or (rest c.args.rulings.now.rects c.args.rulings.now.chosen c.args.set.now) c.loop-i.i-index 0 ≡ get_or c.args.set.now (c.loop-i.i-index + 1) 0
+member c = rest_at c.args.rulings.now.rects c.args.rulings.now.chosen c.args.set.now c.loop-i.i-index c.loop-i-test.true
 
 inside : (c : In-loop-i) → c.loop-i.i-index + 1 < length c.args.set.now
-inside c = omega (arith, rest_long c.args.rects.now c.args.chosen.now c.args.set.now)
+inside c = omega (arith, rest_long c.args.rulings.now.rects c.args.rulings.now.chosen c.args.set.now)
 
-known : (c : In-loop-i) → get_or (rest c.args.rects.now c.args.chosen.now c.args.set.now) c.loop-i.i-index 0 < length c.args.chosen.now
-known c = rw (member c) (member_within c.args.set.now c.requires.1 (c.loop-i.i-index + 1) (inside c))
+known : (c : In-loop-i) → get_or (rest c.args.rulings.now.rects c.args.rulings.now.chosen c.args.set.now) c.loop-i.i-index 0 < length c.args.rulings.now.chosen
+known c = rw (member c) (member_within c.args.set.now c.requires.0 (c.loop-i.i-index + 1) (inside c))
 
 pub loop-i-init : goal.loop-i-init
-loop-i-init c = begun c.args.rects.now c.args.chosen.now c.args.set.now c.requires.2 c.rect_at-r.ensures
-
-pub bounds-chosen-i : goal.bounds-chosen-i
-bounds-chosen-i c = known (goal.at.bounds-chosen-i c).In-loop-i
+loop-i-init c = begun c.args.rulings.now.rects c.args.rulings.now.chosen c.args.set.now c.requires.1 c.rect_at-r.ensures.0
 
 pub rect_at-requires : goal.rect_at-requires
-rect_at-requires c = c.requires.0.rect _ (known (goal.at.rect_at-requires c).In-loop-i)
+rect_at-requires c = known (goal.at.rect_at-requires c).In-loop-i
 
 pub loop-i-preserved : goal.loop-i-preserved
 loop-i-preserved c =
     let a = c.args in
     let here = (goal.at.loop-i-preserved c).In-loop-i in
-    turn a.rects.now a.chosen.now a.set.now c.loop-i.r c.loop-i.invariant (inside here)
-    (c.rect_at.ensures ∙ ap (λ (m : ℕ). rect_at a.rects.now (get_or a.chosen.now m 0)) (member here)) c.union_rect-r.ensures
+    turn a.rulings.now.rects a.rulings.now.chosen a.set.now c.loop-i.r c.loop-i.invariant (inside here)
+    (c.rect_at.ensures.0 ∙ ap (λ (m : ℕ). rect_at a.rulings.now.rects (get_or a.rulings.now.chosen m 0)) (member here)) c.union_rect-r.ensures
 
 pub returns : goal.returns
 returns c =
     let a = c.args in
-    done a.rects.now a.chosen.now a.set.now c.loop-i.invariant (omega (arith, rest_long a.rects.now a.chosen.now a.set.now))
+    done a.rulings.now.rects a.rulings.now.chosen a.set.now c.loop-i.invariant (omega (arith, rest_long a.rulings.now.rects a.rulings.now.chosen a.set.now))

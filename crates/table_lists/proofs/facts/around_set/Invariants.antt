@@ -7,4 +7,4 @@ use Rattle.table_lists.specs.Answers.{places_of}
 use Rattle.table_lists.proofs.facts.around_set.Given as goal
 
 abbrev pub invariant-loop-i : goal.invariant-loop-i
-invariant-loop-i l = unioned l.rects l.r (drop (l.i-index + 1) (places_of l.chosen l.set)) ≡ around l.rects (places_of l.chosen l.set)
+invariant-loop-i l = unioned l.rulings.rects l.r (drop (l.i-index + 1) (places_of l.rulings.chosen l.set)) ≡ around l.rulings.rects (places_of l.rulings.chosen l.set)

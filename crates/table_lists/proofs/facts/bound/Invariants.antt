@@ -10,7 +10,7 @@ use Rattle.lists.proofs.Written.{written_run}
 use Rattle.rects.specs.declared.Rect.{Rect}
 use Rattle.rects.specs.Rects.{numbers_of}
 use Rattle.rects.specs.Around.{around}
-use Rattle.sets.specs.Listing.{members_of}
+use Rattle.table_lists.specs.Steps.{set_of}
 use Rattle.table_lists.specs.Answers.{places_of, bounds_of}
 use Rattle.table_lists.proofs.Strung.{strung, strung_one, strung_size}
 use Rattle.table_lists.proofs.Passes.{taken_more}
@@ -34,4 +34,4 @@ module _ (rects chosen : List ℕ) (f : ℕ → List ℕ) (numbers out : List �
       at_end e = omega arith
 
 abbrev pub invariant-loop-t : goal.invariant-loop-t
-invariant-loop-t l = l.out ≡ written (strung (four l.rects l.chosen (members_of l.members l.ends l.count)) (take l.t l.numbers)) l.initial.out
+invariant-loop-t l = l.out ≡ written (strung (four l.rulings.rects l.rulings.chosen (set_of l.sets)) (take l.t l.numbers)) l.initial.out

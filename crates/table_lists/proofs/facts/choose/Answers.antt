@@ -13,9 +13,10 @@ use Rattle.shapes.specs.declared.limits.Limits.{Limits}
 use Rattle.shapes.specs.Shapes.{is_table, has_minima, has_two_lines, lines_of}
 use Rattle.shapes.specs.Steps.{Shaped}
 use Rattle.meeting.specs.Steps.{IndexesBelow}
+use Rattle.meeting.proofs.Rulings.{given_of}
 use Rattle.table_lists.proofs.Passes.{chose_none}
 use Rattle.table_lists.proofs.facts.choose.Invariants.{fits, known, low, moved, refused, table}
-use Rattle.table_lists.proofs.facts.choose.Goals.{In-loop-k, After-members_of-set, Then-found, then-found, else-found}
+use Rattle.table_lists.proofs.facts.choose.Goals.{In-loop-k, After-at-set, Then-found, then-found, else-found}
 use Rattle.table_lists.proofs.facts.choose.Goals as goal
 
 -- the lines of a table
@@ -35,31 +36,31 @@ two_lines {lim} {s} {xs} {h = h} {v} F e l =
     record { rows = omega (arith, F.rows); columns = omega (arith, F.columns); few_rows = omega (arith, F.few.0); few_columns = omega (arith, F.few.1) }
 
 -- there is a place left in the tables' lists, and the set is known
-place : (c : In-loop-k) → c.loop-k.tables < length c.args.chosen.now
-place c = low c.requires.given.1 c.loop-k.invariant c.loop-k-test.true
+place : (c : In-loop-k) → c.loop-k.tables < length c.args.rulings.now.chosen
+place c = low c.requires.given c.loop-k.invariant c.loop-k-test.true
 
-members : (c : After-members_of-set) → IndexesBelow (length c.args.chosen.now) c.members_of-set.result.now
-members c = known c.requires.given.1 c.loop-k.invariant c.loop-k-test.true c.members_of-set.ensures
+members : (c : After-at-set) → IndexesBelow (length c.args.rulings.now.chosen) c.at-set.result.now
+members c = known c.requires.given c.loop-k.invariant c.loop-k-test.true c.at-set.ensures
 
-lines : (c : Then-found) → Lines c.shape_of-found.result.row_lines c.shape_of-found.result.column_lines (length c.args.chosen.now)
-lines c = two_lines c.shape_of-found.ensures c.if-found.true (members (goal.at.Then-found c).After-members_of-set).short
+lines : (c : Then-found) → Lines c.shape_of-found.result.row_lines c.shape_of-found.result.column_lines (length c.args.rulings.now.chosen)
+lines c = two_lines c.shape_of-found.ensures c.if-found.true (members (goal.at.Then-found c).After-at-set).short
 
 pub loop-k-init : goal.loop-k-init
 loop-k-init c = chose_none _ _ _ _ _ _ _
 
 pub shape_of-found-requires-in-loop-k : goal.shape_of-found-requires-in-loop-k
 shape_of-found-requires-in-loop-k c =
-    let m = members (goal.at.shape_of-found-requires-in-loop-k c).After-members_of-set in
+    let m = members (goal.at.shape_of-found-requires-in-loop-k c).After-at-set in
     let R = c.requires.rooms in
-    (c.requires.given.0, m, omega (arith, m.short, R.keys), omega (arith, m.short, R.order), omega (arith, m.short, R.work))
+    (m, omega (arith, m.short, R.keys), omega (arith, m.short, R.order), omega (arith, m.short, R.work))
 
 pub overflow_cast-numbers : goal.overflow_cast-numbers
 overflow_cast-numbers c =
-    omega (arith, c.requires.given.1.few, c.requires.given.0.few)
+    omega (arith, c.requires.given.few, (given_of c.rulings.view_is c.rulings.invariant).few)
 
 pub offset_bounds-numbers-tables : goal.offset_bounds-numbers-tables
 offset_bounds-numbers-tables c =
-    omega (arith, place (goal.at.offset_bounds-numbers-tables c).In-loop-k, c.requires.given.0.few)
+    omega (arith, place (goal.at.offset_bounds-numbers-tables c).In-loop-k, (given_of c.rulings.view_is c.rulings.invariant).few)
 
 pub bounds-numbers-tables : goal.bounds-numbers-tables
 bounds-numbers-tables c = omega (arith, place (goal.at.bounds-numbers-tables c).In-loop-k, c.requires.rooms.numbers)
@@ -69,11 +70,11 @@ overflow_sub-rows c = omega (arith, (lines (goal.at.overflow_sub-rows c).Then-fo
 
 pub overflow_cast-rows : goal.overflow_cast-rows
 overflow_cast-rows c =
-    omega (arith, (lines (goal.at.overflow_cast-rows c).Then-found).few_rows, c.requires.given.0.few)
+    omega (arith, (lines (goal.at.overflow_cast-rows c).Then-found).few_rows, (given_of c.rulings.view_is c.rulings.invariant).few)
 
 pub offset_bounds-rows-tables : goal.offset_bounds-rows-tables
 offset_bounds-rows-tables c =
-    omega (arith, place (goal.at.offset_bounds-rows-tables c).In-loop-k, c.requires.given.0.few)
+    omega (arith, place (goal.at.offset_bounds-rows-tables c).In-loop-k, (given_of c.rulings.view_is c.rulings.invariant).few)
 
 pub bounds-rows-tables : goal.bounds-rows-tables
 bounds-rows-tables c = omega (arith, place (goal.at.bounds-rows-tables c).In-loop-k, c.requires.rooms.rows)
@@ -83,30 +84,30 @@ overflow_sub-columns c = omega (arith, (lines (goal.at.overflow_sub-columns c).T
 
 pub overflow_cast-columns : goal.overflow_cast-columns
 overflow_cast-columns c =
-    omega (arith, (lines (goal.at.overflow_cast-columns c).Then-found).few_columns, c.requires.given.0.few)
+    omega (arith, (lines (goal.at.overflow_cast-columns c).Then-found).few_columns, (given_of c.rulings.view_is c.rulings.invariant).few)
 
 pub offset_bounds-columns-tables : goal.offset_bounds-columns-tables
 offset_bounds-columns-tables c =
-    omega (arith, place (goal.at.offset_bounds-columns-tables c).In-loop-k, c.requires.given.0.few)
+    omega (arith, place (goal.at.offset_bounds-columns-tables c).In-loop-k, (given_of c.rulings.view_is c.rulings.invariant).few)
 
 pub bounds-columns-tables : goal.bounds-columns-tables
 bounds-columns-tables c = omega (arith, place (goal.at.bounds-columns-tables c).In-loop-k, c.requires.rooms.columns)
 
 pub overflow_add-tables : goal.overflow_add-tables
-overflow_add-tables c = omega (arith, place (goal.at.overflow_add-tables c).In-loop-k, c.requires.given.0.few)
+overflow_add-tables c = omega (arith, place (goal.at.overflow_add-tables c).In-loop-k, (given_of c.rulings.view_is c.rulings.invariant).few)
 
 pub append-at-requires : goal.append-at-requires
 append-at-requires c =
-    omega (arith, fits c.requires.given.1 c.loop-k.invariant c.loop-k-test.true c.members_of-set.ensures, c.requires.rooms.free)
+    omega (arith, fits c.requires.given c.loop-k.invariant c.loop-k-test.true c.at-set.ensures, c.requires.rooms.free)
 
 pub loop-k-preserved : goal.loop-k-preserved
 loop-k-preserved c =
-    let S = c.requires.given.1 in
+    let S = c.requires.given in
     let R = c.requires.rooms in
     elim c.if-found.branch [
-      | then-found w ↦ moved (table S c.loop-k.invariant c.loop-k-test.true c.members_of-set.ensures R c.shape_of-found.ensures w.if-found.true) w.numbers-is w.rows-is w.columns-is w.free-is w.tables-is w.at-is
-      | else-found w ↦ moved (refused S c.loop-k.invariant c.loop-k-test.true c.members_of-set.ensures R c.shape_of-found.ensures w.if-found.false w.append-at.ensures.0 w.append-at.ensures.1) w.numbers-is w.rows-is w.columns-is w.free-is w.tables-is w.at-is
+      | then-found w ↦ moved (table S c.loop-k.invariant c.loop-k-test.true c.at-set.ensures R c.shape_of-found.ensures w.if-found.true) w.numbers-is w.rows-is w.columns-is w.free-is w.tables-is w.at-is
+      | else-found w ↦ moved (refused S c.loop-k.invariant c.loop-k-test.true c.at-set.ensures R c.shape_of-found.ensures w.if-found.false w.append-at.ensures.0 w.append-at.ensures.1) w.numbers-is w.rows-is w.columns-is w.free-is w.tables-is w.at-is
     ]
 
 pub returns : goal.returns
-returns c = let end : c.loop-k.k ≡ c.args.count = omega arith in rw end at c.loop-k.invariant
+returns c = let end : c.loop-k.k ≡ c.args.sets.now.count = omega arith in rw end at c.loop-k.invariant

@@ -6,10 +6,10 @@ use Prim.Native.Nat.{ℕ, ◌+◌, ◌-◌, ◌≤◌, ◌<◌}
 use native.Mathlib.Omega.{arith}
 use lib.ListN.{length, set}
 use lib.Seq.{sets}
-use Rattle.sets.specs.Listing.{members_of}
+use Rattle.table_lists.specs.Steps.{set_of}
 use Rattle.meeting.specs.declared.segment.Segment.{Segment}
 use Rattle.shapes.specs.declared.limits.Limits.{Limits}
-use Rattle.meeting.specs.Segments.{ruling_at}
+use Rattle.meeting.specs.Segments.{ruling}
 use Rattle.shapes.specs.Shapes.{is_table, lines_of}
 use Rattle.meeting.specs.Steps.{IndexesBelow}
 use Rattle.table_lists.specs.Steps.{SetsIn, Rooms, Chose}
@@ -45,4 +45,4 @@ pub moved : {lim : Limits} {s : ℕ → Segment} {f : ℕ → List ℕ} {nu ro c
 moved P x y z w u v = rw (x, y, z, w, u, v) P
 
 abbrev pub invariant-loop-k : goal.invariant-loop-k
-invariant-loop-k l = Chose l.limits (ruling_at l.rects l.directions l.chosen) (members_of l.members l.ends l.count) l.k l.initial.numbers l.initial.rows l.initial.columns l.initial.free l.numbers l.rows l.columns l.free l.tables l.at
+invariant-loop-k l = Chose l.limits (ruling l.rulings) (set_of l.sets) l.k l.initial.numbers l.initial.rows l.initial.columns l.initial.free l.numbers l.rows l.columns l.free l.tables l.at

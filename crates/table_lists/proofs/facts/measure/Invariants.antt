@@ -6,9 +6,9 @@ use native.Mathlib.Omega.{arith}
 use lib.Ieee.{Float}
 use lib.ListN.{length, get_or, take, set}
 use Rattle.lists.specs.Lists.{written}
-use Rattle.sets.specs.Listing.{members_of}
+use Rattle.table_lists.specs.Steps.{set_of}
 use Rattle.meeting.specs.declared.segment.Segment.{Segment}
-use Rattle.meeting.specs.Segments.{ruling_at}
+use Rattle.meeting.specs.Segments.{ruling}
 use Rattle.meeting.specs.Meeting.{share_of}
 use Rattle.table_lists.specs.Steps.{Measured}
 use Rattle.table_lists.proofs.Passes.{mapped_more}
@@ -36,4 +36,4 @@ module _ (join : ℕ) (s : ℕ → Segment) (f : ℕ → List ℕ) (numbers ru :
 
 abbrev pub invariant-loop-t : goal.invariant-loop-t
 invariant-loop-t l =
-    Turns l.join (ruling_at l.rects l.directions l.chosen) (members_of l.members l.ends l.count) l.numbers l.initial.rulings l.initial.shares l.rulings l.shares l.t
+    Turns l.join (ruling l.rulings) (set_of l.sets) l.numbers l.initial.sizes l.initial.shares l.sizes l.shares l.t

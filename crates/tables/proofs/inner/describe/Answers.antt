@@ -3,7 +3,7 @@ use Rattle.tables.proofs.inner.describe.Goals as goal
 
 pub bound-requires : goal.bound-requires
 bound-requires c =
-    (c.requires.join_bound.1, c.requires.join_bound.2, c.requires.join_bound.3, c.requires.tables_in_bounds.0)
+    (c.requires.join_bound.1, c.requires.join_bound.2, c.requires.tables_in_bounds.0)
 
 pub measure-requires : goal.measure-requires
 measure-requires c =

@@ -1,16 +1,14 @@
--- `segment::joined_by` meets its contract: a ruling of the same direction joins no end.
+-- `Rulings::joined_by` meets its contract: a ruling of the same direction joins no end.
 use mathlib.Core.Path.{◌≡◌, refl, sym, ap, ◌∙◌}
 use mathlib.Core.Bool.{Bool, true, false, beq, cond, not, false≢true}
 use Prim.Native.Nat.{ℕ, ◌+◌}
-use native.Mathlib.Omega.{arith}
 use lib.Dec.{eqb}
-use lib.ListN.{length, get_or}
+use lib.ListN.{get_or}
 use Rattle.rects.specs.declared.Rect.{Rect}
 use Rattle.rects.specs.Rects.{rect_at}
 use Rattle.meeting.specs.declared.segment.Segment.{Segment}
 use Rattle.meeting.specs.Segments.{segment_of, opposite, joins_end}
-use borrow.Author.Rules.{scaled_Fits}
-use Rattle.meeting.proofs.segment.joined_by.Goals as goal
+use Rattle.meeting.proofs.segment.Rulings.joined_by.Goals as goal
 
 lies_by : (r : Rect) (d : ℕ) → (segment_of r d).horizontal ≡ eqb d 0
 unfolding segment_of
@@ -48,29 +46,10 @@ alike join e a r d f =
     let o : opposite a (segment_of r d) ≡ false = ap (λ (t : Bool). cond a.horizontal (not t) t) (lies_by r d) ∙ not_opposite a.horizontal (eqb d 0) f in
     rw o refl
 
-pub overflow_cast-place : goal.overflow_cast-place
-overflow_cast-place c = omega (arith, c.shared_slice_known-4-1.given c.args.j)
-
-pub offset_bounds-directions-place : goal.offset_bounds-directions-place
-offset_bounds-directions-place c =
-    scaled_Fits (get_or c.args.chosen.now c.args.j 0) (length c.args.directions.now) 4 (c.requires.1.direction c.args.j c.requires.2) c.well_formed.1.0.1
-
-pub bounds-directions-place : goal.bounds-directions-place
-bounds-directions-place c =
-    c.requires.1.direction c.args.j c.requires.2
-
-pub returns-then-directions-place : goal.returns-then-directions-place
-returns-then-directions-place c =
-    alike c.args.join c.args.end c.args.a (rect_at c.args.rects.now (get_or c.args.chosen.now c.args.j 0)) (get_or c.args.directions.now (get_or c.args.chosen.now c.args.j 0) 0) c.if-directions-place.true
-
-pub ruling_at-b-requires : goal.ruling_at-b-requires
-ruling_at-b-requires c =
-    (c.requires.1, c.requires.2)
+pub returns-then-direction-a : goal.returns-then-direction-a
+returns-then-direction-a c =
+    alike c.args.join c.args.end c.args.a (rect_at c.args.self.now.rects (get_or c.args.self.now.chosen c.args.j 0)) _ (rw c.direction.ensures at c.if-direction-a.true)
 
 pub joins_end-requires : goal.joins_end-requires
 joins_end-requires c =
-    (c.requires.0, across c.args.a (rect_at c.args.rects.now (get_or c.args.chosen.now c.args.j 0)) (get_or c.args.directions.now (get_or c.args.chosen.now c.args.j 0) 0) c.if-directions-place.false c.ruling_at-b.ensures)
-
-pub returns : goal.returns
-returns c =
-    c.joins_end.ensures ∙ ap (λ (b : Segment). joins_end c.args.join c.args.end c.args.a b) c.ruling_at-b.ensures
+    (c.requires.0, across c.args.a (rect_at c.args.self.now.rects (get_or c.args.self.now.chosen c.args.j 0)) _ (rw c.direction.ensures at c.if-direction-a.false) c.at.ensures)
