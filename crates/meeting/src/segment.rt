@@ -85,6 +85,7 @@ impl Rulings<'_> {
         requires { i < length self.now.chosen }
         ensures { result ≡ get_or self.now.chosen i 0 }
     {
+        // The list first, so that its length is known where it is read.
         let chosen = self.chosen;
         chosen[i] as usize
     }
