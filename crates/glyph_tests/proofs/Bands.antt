@@ -1,5 +1,5 @@
 -- A band along a side is a rectangle: its lines that have ink are the places along the side with ink in the clamped band.
-use Rattle.std.proofs.Common.{◌≡◌, ℕ, ◌+◌, ◌-◌, ◌<◌, ◌≤◌, min, max, Bool, true, false, ltb, List, sym, refl, ap, ◌∙◌, ap₂, arith}
+use Rattle.std.proofs.Common.{◌≡◌, ℕ, ◌+◌, ◌-◌, ◌<◌, ◌≤◌, min, max, Bool, true, false, ltb, sym, refl, ap, ◌∙◌, ap₂, arith}
 use lib.Ieee.{Float, binary64, div}
 use Rattle.lists.specs.Lists.{below, any}
 use Rattle.lists.proofs.Keep.{any_true, true_any, in_below, below_in}
@@ -8,7 +8,7 @@ use Rattle.math.specs.Sum.{whole}
 use Rattle.rects.specs.Rects.{width_of, height_of}
 use Rattle.rects.specs.declared.Rect.{Rect}
 use Rattle.ink.specs.declared.Lines.TheVariants.{Rows, Columns}
-use Rattle.ink.specs.Ink.{Ink, row_ink, column_ink}
+use Rattle.ink.specs.Ink.{Mask, Ink, row_ink, column_ink}
 use Rattle.ink.specs.Steps.{Readable}
 use Rattle.ink.proofs.Counts.{some_any, readable_inside}
 use Rattle.ink.proofs.Runs.{longest_same}
@@ -79,15 +79,15 @@ module _ (ink : Ink) (f : Rect) (tol : ℕ) where
   edges_are x y t b l r m m' m'' =
       m'' ∙ ap₂ minimum_number (m' ∙ ap₂ minimum_number (m ∙ ap₂ minimum_number (t ∙ top_share y) (b ∙ bottom_share y)) (l ∙ left_share x)) (r ∙ right_share x)
 
-module _ (mask : List ℕ) (w : ℕ) (f : Rect) (tol : ℕ) (R : Readable mask w f) where
-  pub top_readable : Readable mask w (top_band f tol)
-  top_readable = readable_inside mask w f (top_band f tol) R R.wide (omega (arith, R.high)) (omega arith) (omega arith)
+module _ (m : Mask) (f : Rect) (tol : ℕ) (R : Readable m f) where
+  pub top_readable : Readable m (top_band f tol)
+  top_readable = readable_inside m f (top_band f tol) R R.wide (omega (arith, R.high)) (omega arith) (omega arith)
 
-  pub bottom_readable : Readable mask w (bottom_band f tol)
-  bottom_readable = readable_inside mask w f (bottom_band f tol) R R.wide (omega (arith, R.high)) (omega arith) (omega arith)
+  pub bottom_readable : Readable m (bottom_band f tol)
+  bottom_readable = readable_inside m f (bottom_band f tol) R R.wide (omega (arith, R.high)) (omega arith) (omega arith)
 
-  pub left_readable : Readable mask w (left_band f tol)
-  left_readable = readable_inside mask w f (left_band f tol) R (omega (arith, R.wide)) R.high (omega arith) (omega arith)
+  pub left_readable : Readable m (left_band f tol)
+  left_readable = readable_inside m f (left_band f tol) R (omega (arith, R.wide)) R.high (omega arith) (omega arith)
 
-  pub right_readable : Readable mask w (right_band f tol)
-  right_readable = readable_inside mask w f (right_band f tol) R (omega (arith, R.wide)) R.high (omega arith) (omega arith)
+  pub right_readable : Readable m (right_band f tol)
+  right_readable = readable_inside m f (right_band f tol) R (omega (arith, R.wide)) R.high (omega arith) (omega arith)

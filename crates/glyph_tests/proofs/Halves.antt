@@ -1,16 +1,16 @@
 -- The inner half of a frame: it is in order, and has a place at least.
-use Rattle.std.proofs.Common.{◌≡◌, ℕ, ◌*◌, ◌^◌, ◌<◌, ◌≤◌, max, List, sym, ap, ◌∙◌, ap₂, lt_of_le_of_lt, mul-le-mul, arith, lit<}
+use Rattle.std.proofs.Common.{◌≡◌, ℕ, ◌*◌, ◌^◌, ◌<◌, ◌≤◌, max, sym, ap, ◌∙◌, ap₂, lt_of_le_of_lt, mul-le-mul, arith, lit<}
 use lib.Ieee.{binary64, div}
 use Rattle.math.specs.Sum.{whole}
 use Rattle.rects.specs.Rects.{width_of, height_of}
 use Rattle.rects.specs.declared.Rect.{Rect}
-use Rattle.ink.specs.Ink.{Ink, ink_in}
+use Rattle.ink.specs.Ink.{Mask, Ink, ink_in}
 use Rattle.ink.specs.Steps.{Readable}
 use Rattle.ink.proofs.Counts.{readable_inside}
 use Rattle.glyph_tests.specs.Tests.{inner_half, inner_ink}
 
-pub inner_readable : (mask : List ℕ) (w : ℕ) (f : Rect) → Readable mask w f → Readable mask w (inner_half f)
-inner_readable mask w f R = readable_inside mask w f (inner_half f) R (omega (arith, R.wide)) (omega (arith, R.high)) (omega arith) (omega arith)
+pub inner_readable : (m : Mask) (f : Rect) → Readable m f → Readable m (inner_half f)
+inner_readable m f R = readable_inside m f (inner_half f) R (omega (arith, R.wide)) (omega (arith, R.high)) (omega arith) (omega arith)
 
 some : {a b : ℕ} → 1 ≤ a → 1 ≤ b → max (a * b) 1 ≡ a * b
 some {a} {b} h k = let l : 1 ≤ a * b = mul-le-mul h k in omega arith

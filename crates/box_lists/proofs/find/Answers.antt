@@ -31,7 +31,7 @@ next_wide-k-requires c = (widths c.requires, omega arith)
 pub loop-k-init : goal.loop-k-init
 loop-k-init c =
     let a = c.args in
-    (c.whole_part-least.ensures, onward a.mask.now a.w a.glyphs.now a.l c.requires c.whole_part-least.ensures (begun a.mask.now a.w a.glyphs.now a.l a.rects.now a.marks.now a.coverages.now) c.next_wide-k.ensures)
+    (c.whole_part-least.ensures, onward a.mask.now.bytes a.mask.now.w a.glyphs.now a.l c.requires c.whole_part-least.ensures (begun a.mask.now.bytes a.mask.now.w a.glyphs.now a.l a.rects.now a.marks.now a.coverages.now) c.next_wide-k.ensures)
 
 pub rect_at-requires : goal.rect_at-requires
 rect_at-requires c = has_numbers _ _ c.loop-k-test.true
@@ -43,11 +43,7 @@ test_glyph-found-requires c =
 pub store-n-requires : goal.store-n-requires
 store-n-requires c =
     let a = c.args in
-    room a.mask.now a.w a.glyphs.now a.l c.requires c.loop-k.invariant.1 c.loop-k-test.true
-
-pub overflow_add-k : goal.overflow_add-k
-overflow_add-k c =
-    omega (arith, c.loop-k-test.true, c.well_formed.1.1.0.0)
+    room a.mask.now.bytes a.mask.now.w a.glyphs.now a.l c.requires c.loop-k.invariant.1 c.loop-k-test.true
 
 pub next_wide-k-requires-in-loop-k : goal.next_wide-k-requires-in-loop-k
 next_wide-k-requires-in-loop-k c =
@@ -61,8 +57,8 @@ pub loop-k-preserved : goal.loop-k-preserved
 loop-k-preserved c =
     let a = c.args in
     let inv = c.loop-k.invariant in
-    let one = turn a.mask.now a.w a.glyphs.now a.l c.requires inv.1 c.loop-k-test.true c.rect_at.ensures c.test_glyph-found.ensures c.store-n.ensures in
-    (inv.0, onward a.mask.now a.w a.glyphs.now a.l c.requires inv.0 one c.next_wide-k-in-loop-k.ensures)
+    let one = turn a.mask.now.bytes a.mask.now.w a.glyphs.now a.l c.requires inv.1 c.loop-k-test.true c.rect_at.ensures c.test_glyph-found.ensures c.store-n.ensures in
+    (inv.0, onward a.mask.now.bytes a.mask.now.w a.glyphs.now a.l c.requires inv.0 one c.next_wide-k-in-loop-k.ensures)
 
 pub shape_of-rects : goal.shape_of-rects
 shape_of-rects c = c.loop-k.invariant.1.rects_long
@@ -76,4 +72,4 @@ shape_of-coverages c = c.loop-k.invariant.1.coverages_long
 pub returns : goal.returns
 returns c =
     let a = c.args in
-    done a.mask.now a.w a.glyphs.now a.l c.requires c.loop-k.invariant.1 c.loop-k-test.false
+    done a.mask.now.bytes a.mask.now.w a.glyphs.now a.l c.requires c.loop-k.invariant.1 c.loop-k-test.false

@@ -1,6 +1,6 @@
 -- `bands::first_columns` meets its contract: each band that is passed over has no column over the limit.
 use native.Mathlib.Omega.{arith}
-use Rattle.ink.specs.Ink.{ink_at}
+use Rattle.ink.specs.Ink.{inked}
 use Rattle.ink_bands.proofs.Banded.{none_joined}
 use Rattle.ink_bands.proofs.first_columns.Goals as goal
 
@@ -23,7 +23,7 @@ pub loop-k-preserved : goal.loop-k-preserved
 loop-k-preserved c =
     let a = c.args in (
       omega arith,
-      none_joined (ink_at a.w a.mask.now) a.r a.limit c.loop-k.invariant.1 (c.none_over.ensures c.if-not-none_over.false),
+      none_joined (inked a.mask.now) a.r a.limit c.loop-k.invariant.1 (c.none_over.ensures c.if-not-none_over.false),
     )
 
 pub returns : goal.returns

@@ -2,7 +2,7 @@
 use mathlib.Core.Path.{◌≡◌}
 use Prim.Native.Nat.{◌+◌, ◌-◌}
 use native.Mathlib.Omega.{arith}
-use Rattle.ink.specs.Ink.{ink_at}
+use Rattle.ink.specs.Ink.{inked}
 use Rattle.ink_bands.proofs.Banded.{none_joined}
 use Rattle.ink_bands.proofs.last_columns.Goals as goal
 
@@ -23,7 +23,7 @@ loop-end-preserved c =
     let a = c.args in
     let up : c.loop-end.end - 4 + 4 ≡ c.loop-end.end = omega (arith, c.loop-end-test.true) in (
       omega (arith, c.loop-end.invariant.0),
-      none_joined (ink_at a.w a.mask.now) a.r a.limit (λ k l m. c.none_over.ensures c.if-not-none_over.false k l (omega (arith, up))) c.loop-end.invariant.1,
+      none_joined (inked a.mask.now) a.r a.limit (λ k l m. c.none_over.ensures c.if-not-none_over.false k l (omega (arith, up))) c.loop-end.invariant.1,
     )
 
 pub returns : goal.returns

@@ -1,14 +1,14 @@
 -- `inner::inner_ink` meets its contract: the inner half can be read, and has a place at least.
 use Rattle.std.proofs.Common.{arith}
-use Rattle.ink.specs.Ink.{ink_at}
+use Rattle.ink.specs.Ink.{inked}
 use Rattle.ink.specs.Steps.{Readable}
 use Rattle.glyph_tests.proofs.Halves.{inner_readable, small_product, share_is}
 use Rattle.glyph_tests.proofs.inner.inner_ink.Goals.{After-inner_half-half}
 use Rattle.glyph_tests.proofs.inner.inner_ink.Goals as goal
 
 -- the inner half can be read
-readable : (c : After-inner_half-half) → let a = c.args in Readable a.mask.now a.w c.inner_half-half.result
-readable c = rw c.inner_half-half.ensures (inner_readable c.args.mask.now c.args.w c.args.f c.requires)
+readable : (c : After-inner_half-half) → let a = c.args in Readable a.mask.now c.inner_half-half.result
+readable c = rw c.inner_half-half.ensures (inner_readable c.args.mask.now c.args.f c.requires)
 
 pub ink_in-inked-requires : goal.ink_in-inked-requires
 ink_in-inked-requires c = readable c
@@ -25,4 +25,4 @@ overflow_mul-total c = record { fits = small_product (omega (arith, c.width.ensu
 pub returns : goal.returns
 returns c =
     let a = c.args in
-    rw (c.from.ensures, c.from-2.ensures) (share_is (ink_at a.w a.mask.now) a.f c.inner_half-half.ensures c.ink_in-inked.ensures c.width.ensures c.height.ensures)
+    rw (c.from.ensures, c.from-2.ensures) (share_is (inked a.mask.now) a.f c.inner_half-half.ensures c.ink_in-inked.ensures c.width.ensures c.height.ensures)

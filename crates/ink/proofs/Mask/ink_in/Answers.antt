@@ -1,15 +1,15 @@
--- `read::ink_in` meets its contract: after j turns `n` is the ink of the first j rows.
+-- `Mask::ink_in` meets its contract: after j turns `n` is the ink of the first j rows.
 use mathlib.Core.Path.{◌≡◌, sym, ap, ◌∙◌}
 use Prim.Native.Nat.{◌≤◌}
 use native.Mathlib.Omega.{arith}
 use Rattle.rects.specs.Rects.{height_of}
-use Rattle.ink.specs.Ink.{ink_at, ink_in_rows}
+use Rattle.ink.specs.Ink.{inked, ink_in_rows}
 use Rattle.ink.proofs.Counts.{rows_none, rows_next, row_le}
-use Rattle.ink.proofs.read.ink_in.Goals.{After-row_count-n}
-use Rattle.ink.proofs.read.ink_in.Goals as goal
+use Rattle.ink.proofs.Mask.ink_in.Goals.{After-row_count-n}
+use Rattle.ink.proofs.Mask.ink_in.Goals as goal
 
 pub loop-j-init : goal.loop-j-init
-loop-j-init c = let a = c.args in (omega arith, sym (rows_none (ink_at a.w a.mask.now) a.r))
+loop-j-init c = let a = c.args in (omega arith, sym (rows_none (inked a.self.now) a.r))
 
 pub row_count-n-requires : goal.row_count-n-requires
 row_count-n-requires c = (c.requires, omega (arith, c.height-j-end.ensures))
@@ -18,7 +18,7 @@ row_count-n-requires c = (c.requires, omega (arith, c.height-j-end.ensures))
 row_small : (c : After-row_count-n) → c.row_count-n.result ≤ 8192
 row_small c =
     let a = c.args in
-    omega (arith, c.row_count-n.ensures, row_le a.mask.now a.w a.r c.loop-j.j, c.requires.narrow, c.requires.right, c.requires.wide)
+    omega (arith, c.row_count-n.ensures, row_le a.self.now a.r c.loop-j.j, c.requires.narrow, c.requires.right, c.requires.wide)
 
 pub overflow_add-n : goal.overflow_add-n
 overflow_add-n c = omega (arith, row_small c, c.height-j-end.ensures, c.requires.low)
@@ -26,10 +26,10 @@ overflow_add-n c = omega (arith, row_small c, c.height-j-end.ensures, c.requires
 pub loop-j-preserved : goal.loop-j-preserved
 loop-j-preserved c =
     let a = c.args in
-    (omega (arith, row_small c), rows_next (ink_at a.w a.mask.now) a.r c.loop-j.j c.loop-j.invariant.1 c.row_count-n.ensures)
+    (omega (arith, row_small c), rows_next (inked a.self.now) a.r c.loop-j.j c.loop-j.invariant.1 c.row_count-n.ensures)
 
 pub returns : goal.returns
 returns c =
     let a = c.args in
     let end : c.loop-j.j ≡ height_of a.r = omega (arith, c.height-j-end.ensures) in
-    c.loop-j.invariant.1 ∙ ap (ink_in_rows (ink_at a.w a.mask.now) a.r) end
+    c.loop-j.invariant.1 ∙ ap (ink_in_rows (inked a.self.now) a.r) end
