@@ -7,7 +7,7 @@ use std::marker::Model;
 
 pub mod read;
 
-// A picture of bytes, row by row: a byte that is not 0 is ink.
+// A picture of w columns, row by row: a byte that is not 0 is ink.
 #[derive(Drop)]
 pub struct Mask<'a> {
     pub bytes: &'a [u8],
