@@ -8,9 +8,8 @@ use Rattle.math.specs.Sum.{whole}
 use Rattle.rects.specs.Rects.{width_of, height_of}
 use Rattle.rects.specs.declared.Rect.{Rect}
 use Rattle.ink.specs.declared.Lines.TheVariants.{Rows, Columns}
-use Rattle.ink.specs.Ink.{Mask, Ink, row_ink, column_ink}
-use Rattle.ink.specs.Steps.{Readable}
-use Rattle.ink.proofs.Counts.{some_any, readable_inside}
+use Rattle.ink.specs.Ink.{Ink, row_ink, column_ink}
+use Rattle.ink.proofs.Counts.{some_any}
 use Rattle.ink.proofs.Runs.{longest_same}
 use Rattle.glyph_tests.specs.Tests.{top_edge, bottom_edge, left_edge, right_edge, run_share, edge_coverage}
 use Rattle.glyph_tests.specs.Steps.{top_band, bottom_band, left_band, right_band, line_share}
@@ -78,16 +77,3 @@ module _ (ink : Ink) (f : Rect) (tol : ℕ) where
   unfolding edge_coverage
   edges_are x y t b l r m m' m'' =
       m'' ∙ ap₂ minimum_number (m' ∙ ap₂ minimum_number (m ∙ ap₂ minimum_number (t ∙ top_share y) (b ∙ bottom_share y)) (l ∙ left_share x)) (r ∙ right_share x)
-
-module _ (m : Mask) (f : Rect) (tol : ℕ) (R : Readable m f) where
-  pub top_readable : Readable m (top_band f tol)
-  top_readable = readable_inside m f (top_band f tol) R R.wide (omega (arith, R.high)) (omega arith) (omega arith)
-
-  pub bottom_readable : Readable m (bottom_band f tol)
-  bottom_readable = readable_inside m f (bottom_band f tol) R R.wide (omega (arith, R.high)) (omega arith) (omega arith)
-
-  pub left_readable : Readable m (left_band f tol)
-  left_readable = readable_inside m f (left_band f tol) R (omega (arith, R.wide)) R.high (omega arith) (omega arith)
-
-  pub right_readable : Readable m (right_band f tol)
-  right_readable = readable_inside m f (right_band f tol) R (omega (arith, R.wide)) R.high (omega arith) (omega arith)

@@ -15,9 +15,6 @@ loop-k-init c =
     let few : c.passed_from_front-passed.result ≤ c.lines_of-n.result = omega (arith, c.passed_from_front-passed.ensures.0, c.lines_of-n.ensures) in
     first_past (test a.mask.now a.r a.lines a.limit) c.lines_of-n.result c.passed_from_front-passed.result few c.passed_from_front-passed.ensures.1
 
-pub line_count-requires : goal.line_count-requires
-line_count-requires c = (c.requires, omega (arith, c.lines_of-n.ensures))
-
 -- the test of the line in hand
 found : (c : After-is_over) → let a = c.args in c.is_over.result ≡ test a.mask.now a.r a.lines a.limit c.loop-k.k
 found c = let a = c.args in c.is_over.ensures ∙ ap (over a.limit) c.line_count.ensures

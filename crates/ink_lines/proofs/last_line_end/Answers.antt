@@ -10,9 +10,6 @@ use Rattle.ink_lines.proofs.last_line_end.Invariants.{test}
 use Rattle.ink_lines.proofs.last_line_end.Goals.{After-is_over}
 use Rattle.ink_lines.proofs.last_line_end.Goals as goal
 
-pub line_count-requires : goal.line_count-requires
-line_count-requires c = (c.requires, omega (arith, c.passed_from_back-end.ensures.0))
-
 -- the test of the line in hand
 found : (c : After-is_over) → let a = c.args in c.is_over.result ≡ test a.mask.now a.r a.lines a.limit (c.loop-k.k - 1)
 found c = let a = c.args in c.is_over.ensures ∙ ap (over a.limit) c.line_count.ensures

@@ -1,18 +1,14 @@
 -- `Mask::ink_in` meets its contract: after j turns `n` is the ink of the first j rows.
-use mathlib.Core.Path.{◌≡◌, sym, ap, ◌∙◌}
+use mathlib.Core.Path.{sym}
 use Prim.Native.Nat.{◌≤◌}
 use native.Mathlib.Omega.{arith}
-use Rattle.rects.specs.Rects.{height_of}
-use Rattle.ink.specs.Ink.{inked, ink_in_rows}
+use Rattle.ink.specs.Ink.{inked}
 use Rattle.ink.proofs.Counts.{rows_none, rows_next, row_le}
 use Rattle.ink.proofs.Mask.ink_in.Goals.{After-row_count-n}
 use Rattle.ink.proofs.Mask.ink_in.Goals as goal
 
 pub loop-j-init : goal.loop-j-init
 loop-j-init c = let a = c.args in (omega arith, sym (rows_none (inked a.self.now) a.r))
-
-pub row_count-n-requires : goal.row_count-n-requires
-row_count-n-requires c = (c.requires, omega (arith, c.height-j-end.ensures))
 
 -- a row has no more ink than places
 row_small : (c : After-row_count-n) → c.row_count-n.result ≤ 8192
@@ -27,9 +23,3 @@ pub loop-j-preserved : goal.loop-j-preserved
 loop-j-preserved c =
     let a = c.args in
     (omega (arith, row_small c), rows_next (inked a.self.now) a.r c.loop-j.j c.loop-j.invariant.1 c.row_count-n.ensures)
-
-pub returns : goal.returns
-returns c =
-    let a = c.args in
-    let end : c.loop-j.j ≡ height_of a.r = omega (arith, c.height-j-end.ensures) in
-    c.loop-j.invariant.1 ∙ ap (ink_in_rows (inked a.self.now) a.r) end

@@ -4,13 +4,8 @@ use Prim.Native.Nat.{◌+◌}
 use native.Mathlib.Omega.{arith}
 use Rattle.rects.specs.Rects.{width_of}
 use Rattle.ink.specs.Ink.{inked, row_ink}
-use Rattle.ink.proofs.Counts.{row_in_mask, one_passes, none_passes}
+use Rattle.ink.proofs.Counts.{one_passes, none_passes}
 use Rattle.ink.proofs.Mask.row_has_ink.Goals as goal
-
-pub is_ink-requires : goal.is_ink-requires
-is_ink-requires c =
-    let a = c.args in
-    omega (arith, row_in_mask a.self.now a.r c.requires.0 a.j c.requires.1, c.requires.0.wide, c.requires.1, c.loop-i-test.true, c.width-columns.ensures)
 
 pub returns-then-is_ink : goal.returns-then-is_ink
 unfolding row_ink
