@@ -12,4 +12,4 @@ inked-le : (c : At-loop-b) → c.loop-b.n ≤ c.loop-b.b-index
 inked-le c = rw c.loop-b.invariant (many_le (λ k. not (eqb (get_or c.args.row.now k 0) 0)) c.loop-b.b-index)
 
 pub overflow_add-n : goal.overflow_add-n
-overflow_add-n c = omega (arith, one_le (not (eqb (get_or c.args.row.now c.loop-b.b-index 0) 0)) c.from-n.ensures, inked-le (goal.at.overflow_add-n c).At-loop-b)
+overflow_add-n c = omega (arith, one_le _ c.from-n.ensures, inked-le (goal.at.overflow_add-n c).At-loop-b)
