@@ -30,7 +30,7 @@ pub record Stored (found : Option CheckBox) (n : ℕ) (rs ms : List ℕ) (cs : L
 
 -- A page that passed its questions: every glyph box can be read, and there is room for as many boxes.
 pub record Ready (mask : List ℕ) (w : ℕ) (glyphs : List ℕ) (l : Limits) (rs ms : List ℕ) (cs : List Float) : Type 0 where
-  pub readable : (k : ℕ) → k < count glyphs → Readable mask w (rect_at glyphs k)
+  pub readable : (k : ℕ) → k < count glyphs → Readable (record { bytes = mask; w = w }) (rect_at glyphs k)
   pub tolerance : l.box_tolerance_px ≤ 3
   pub rects : 4 * count glyphs ≤ length rs
   pub marks : count glyphs ≤ length ms

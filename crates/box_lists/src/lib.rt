@@ -7,6 +7,7 @@ ghost use Rattle.box_lists.specs.Steps.{RoomAt, Stored, Widths, NextWide, Ready,
 
 use glyph_tests::found::CheckBox;
 use glyph_tests::limits::Limits;
+use ink::Mask;
 use rects::Rect;
 
 // Stores a box after n others, and returns how many there are.
@@ -47,16 +48,15 @@ fn next_wide(glyphs: &[u32], least: u64, from: usize) -> usize
 
 // The boxes of a page that passed its questions, and how many there are.
 pub fn find(
-    mask: &[u8],
-    w: usize,
+    mask: &Mask,
     glyphs: &[u32],
     l: Limits,
     rects: &mut [u32],
     marks: &mut [u32],
     coverages: &mut [f64],
 ) -> usize
-    requires { Ready mask.now w glyphs.now l rects.old marks.old coverages.old }
-    ensures { Made mask.now w glyphs.now l rects.old marks.old coverages.old
+    requires { Ready mask.now.bytes mask.now.w glyphs.now l rects.old marks.old coverages.old }
+    ensures { Made mask.now.bytes mask.now.w glyphs.now l rects.old marks.old coverages.old
         rects.new marks.new coverages.new result }
 {
     let count = glyphs.len() / 4;
@@ -65,7 +65,7 @@ pub fn find(
     let mut k = next_wide(glyphs, least, 0);
     // The walk skips the narrow ones, so it stays a `while`.
     while k < count {
-        let found = glyph_tests::found::test_glyph(mask, w, rects::rect_at(glyphs, k), l);
+        let found = glyph_tests::found::test_glyph(mask, rects::rect_at(glyphs, k), l);
         n = store(rects, marks, coverages, n, found);
         k = next_wide(glyphs, least, k + 1);
     }

@@ -12,6 +12,7 @@ ghost use Rattle.page.specs.Lent.{list_at};
 ghost use Rattle.page.specs.Steps.{Only, Kept};
 
 use grids::inner::Counts;
+use ink::Mask;
 use layout::sides::Sides;
 use params::settings::RulingsParams;
 
@@ -35,7 +36,11 @@ pub fn boxes_in(
         values.new }
 {
     let limits = glyph_tests::limits::limits_of(dpi, xheight, p);
-    box_lists::find(ink, sides.w, glyphs, limits, rects[1], tags[1], values[2])
+    let mask = Mask {
+        bytes: ink,
+        w: sides.w,
+    };
+    box_lists::find(&mask, glyphs, limits, rects[1], tags[1], values[2])
 }
 
 // Among the first n boxes.

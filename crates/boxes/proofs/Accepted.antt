@@ -28,7 +28,7 @@ use Rattle.boxes.specs.Call.{Given, Lent, has_room, given_questions, questions}
 use Rattle.box_lists.specs.Steps.{Ready}
 
 -- a rectangle inside the picture can be read
-readable : (mask : List ℕ) (w h : ℕ) (r : Rect) → w ≤ 8192 → h ≤ 8192 → length mask ≡ w * h → Inside w h r → Readable mask w r
+readable : (mask : List ℕ) (w h : ℕ) (r : Rect) → w ≤ 8192 → h ≤ 8192 → length mask ≡ w * h → Inside w h r → Readable (record { bytes = mask; w = w }) r
 readable mask w h r a b full I =
     let rows : suc r.y1 * w ≤ h * w = mul-le-mul_right w I.bottom in
     record { narrow = a; low = omega (arith, I.bottom); wide = I.wide; high = I.high; right = I.right; bottom = omega (arith, mul_comm h w) }

@@ -5,6 +5,7 @@ ghost use Rattle.boxes.specs.Call.{Boxes};
 
 mod guard;
 
+use ink::Mask;
 use params::settings::RulingsParams;
 
 // The number of the first missed question, 0 where the page is accepted, and the number of boxes.
@@ -45,6 +46,7 @@ pub fn boxes(
         return Answer { number, count: 0 };
     }
     let l = glyph_tests::limits::limits_of(dpi, xheight, p);
-    let count = box_lists::find(ink, w, glyphs, l, rects, marks, coverages);
+    let mask = Mask { bytes: ink, w };
+    let count = box_lists::find(&mask, glyphs, l, rects, marks, coverages);
     Answer { number: 0, count }
 }

@@ -1,5 +1,5 @@
 -- A band along a side is a rectangle: its lines that have ink are the places along the side with ink in the clamped band.
-use Rattle.std.proofs.Common.{◌≡◌, ℕ, ◌+◌, ◌-◌, ◌<◌, ◌≤◌, min, max, Bool, true, false, ltb, List, sym, refl, ap, ◌∙◌, ap₂, arith}
+use Rattle.std.proofs.Common.{◌≡◌, ℕ, ◌+◌, ◌-◌, ◌<◌, ◌≤◌, min, max, Bool, true, false, ltb, sym, refl, ap, ◌∙◌, ap₂, arith}
 use lib.Ieee.{Float, binary64, div}
 use Rattle.lists.specs.Lists.{below, any}
 use Rattle.lists.proofs.Keep.{any_true, true_any, in_below, below_in}
@@ -9,8 +9,7 @@ use Rattle.rects.specs.Rects.{width_of, height_of}
 use Rattle.rects.specs.declared.Rect.{Rect}
 use Rattle.ink.specs.declared.Lines.TheVariants.{Rows, Columns}
 use Rattle.ink.specs.Ink.{Ink, row_ink, column_ink}
-use Rattle.ink.specs.Steps.{Readable}
-use Rattle.ink.proofs.Counts.{some_any, readable_inside}
+use Rattle.ink.proofs.Counts.{some_any}
 use Rattle.ink.proofs.Runs.{longest_same}
 use Rattle.glyph_tests.specs.Tests.{top_edge, bottom_edge, left_edge, right_edge, run_share, edge_coverage}
 use Rattle.glyph_tests.specs.Steps.{top_band, bottom_band, left_band, right_band, line_share}
@@ -78,16 +77,3 @@ module _ (ink : Ink) (f : Rect) (tol : ℕ) where
   unfolding edge_coverage
   edges_are x y t b l r m m' m'' =
       m'' ∙ ap₂ minimum_number (m' ∙ ap₂ minimum_number (m ∙ ap₂ minimum_number (t ∙ top_share y) (b ∙ bottom_share y)) (l ∙ left_share x)) (r ∙ right_share x)
-
-module _ (mask : List ℕ) (w : ℕ) (f : Rect) (tol : ℕ) (R : Readable mask w f) where
-  pub top_readable : Readable mask w (top_band f tol)
-  top_readable = readable_inside mask w f (top_band f tol) R R.wide (omega (arith, R.high)) (omega arith) (omega arith)
-
-  pub bottom_readable : Readable mask w (bottom_band f tol)
-  bottom_readable = readable_inside mask w f (bottom_band f tol) R R.wide (omega (arith, R.high)) (omega arith) (omega arith)
-
-  pub left_readable : Readable mask w (left_band f tol)
-  left_readable = readable_inside mask w f (left_band f tol) R (omega (arith, R.wide)) R.high (omega arith) (omega arith)
-
-  pub right_readable : Readable mask w (right_band f tol)
-  right_readable = readable_inside mask w f (right_band f tol) R (omega (arith, R.wide)) R.high (omega arith) (omega arith)

@@ -1,12 +1,12 @@
 -- The frame lies inside its glyph box, in order, since the first line over the limit stands no later than the last.
-use Rattle.std.proofs.Common.{◌≡◌, ℕ, ◌+◌, ◌-◌, ◌<◌, ◌≤◌, Bool, true, false, cond, ltb, List, sym, refl, ap, ◌∙◌, arith, ltb-true, le-ltb, lt-ltb}
+use Rattle.std.proofs.Common.{◌≡◌, ℕ, ◌+◌, ◌-◌, ◌<◌, ◌≤◌, Bool, true, false, cond, ltb, sym, refl, ap, ◌∙◌, arith, ltb-true, le-ltb, lt-ltb}
 use lib.Ieee.{Float, binary64, mul}
 use Rattle.lists.proofs.Every.{and_first, and_second}
 use Rattle.math.specs.Sum.{whole}
 use Rattle.rects.specs.Rects.{width_of, height_of}
 use Rattle.rects.specs.Steps.{Inside}
 use Rattle.rects.specs.declared.Rect.{Rect}
-use Rattle.ink.specs.Ink.{Ink, row_ink, column_ink}
+use Rattle.ink.specs.Ink.{Mask, Ink, row_ink, column_ink}
 use Rattle.ink.specs.Steps.{Readable}
 use Rattle.ink.specs.Places.{over, first_place, last_end}
 use Rattle.ink.proofs.Counts.{readable_inside}
@@ -90,8 +90,8 @@ module _ (ink : Ink) (fraction : Float) (r : Rect) where
       (omega (arith, u), omega (arith, v), omega (arith, u), omega (arith, v))
 
   -- it can be read where the glyph box can
-  pub frame_readable : (mask : List ℕ) (w : ℕ) → Readable mask w r → has_frame ink fraction r ≡ true → Readable mask w (frame_of ink fraction r)
-  frame_readable mask w R h = let e = frame_ends R.wide R.high h in readable_inside mask w r (frame_of ink fraction r) R e.0 e.1 e.2 e.3
+  pub frame_readable : (m : Mask) → Readable m r → has_frame ink fraction r ≡ true → Readable m (frame_of ink fraction r)
+  frame_readable m R h = let e = frame_ends R.wide R.high h in readable_inside m r (frame_of ink fraction r) R e.0 e.1 e.2 e.3
 
   -- and lies in a picture that the glyph box lies in
   pub frame_inside : (w h : ℕ) → Inside w h r → has_frame ink fraction r ≡ true → Inside w h (frame_of ink fraction r)

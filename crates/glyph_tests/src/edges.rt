@@ -1,12 +1,12 @@
 // Four straight edges. A band of rows or columns absorbs the staircase of a rotated line; unbroken is what a round letter lacks.
 ghost use Rattle.std.specs.Prelude.{◌≡◌, ◌-◌, ◌^◌, ◌<◌, ◌≤◌};
 ghost use Prim.Native.Nat.{◌+◌};
-ghost use Rattle.ink.specs.Ink.{ink_at};
+ghost use Rattle.ink.specs.Ink.{inked};
 ghost use Rattle.ink.specs.Steps.{Readable};
 ghost use Rattle.glyph_tests.specs.Tests.{edge_coverage};
 ghost use Rattle.glyph_tests.specs.Steps.{top_band, bottom_band, left_band, right_band, line_share};
 
-use ink::Lines;
+use ink::{Lines, Mask};
 use rects::Rect;
 
 fn top_band(f: Rect, tol: u32) -> Rect
@@ -58,21 +58,21 @@ fn right_band(f: Rect, tol: u32) -> Rect
 }
 
 // The longest unbroken run of lines of a band that have ink, as a share of them.
-fn share(mask: &[u8], w: usize, band: Rect, lines: Lines) -> f64
-    requires { Readable mask.now w band }
-    ensures { result ≡ line_share (ink_at w mask.now) band lines }
+fn share(mask: &Mask, band: Rect, lines: Lines) -> f64
+    requires { Readable mask.now band }
+    ensures { result ≡ line_share (inked mask.now) band lines }
 {
-    let best = ink_lines::longest(mask, w, band, lines);
+    let best = ink_lines::longest(mask, band, lines);
     f64::from(best) / f64::from(ink_lines::lines_of(band, lines))
 }
 
-pub fn edge_coverage(mask: &[u8], w: usize, f: Rect, tol: u32) -> f64
-    requires { Readable mask.now w f × (tol ≤ 3) }
-    ensures { result ≡ edge_coverage (ink_at w mask.now) f tol }
+pub fn edge_coverage(mask: &Mask, f: Rect, tol: u32) -> f64
+    requires { Readable mask.now f × (tol ≤ 3) }
+    ensures { result ≡ edge_coverage (inked mask.now) f tol }
 {
-    let top = share(mask, w, top_band(f, tol), Lines::Columns);
-    let bottom = share(mask, w, bottom_band(f, tol), Lines::Columns);
-    let left = share(mask, w, left_band(f, tol), Lines::Rows);
-    let right = share(mask, w, right_band(f, tol), Lines::Rows);
+    let top = share(mask, top_band(f, tol), Lines::Columns);
+    let bottom = share(mask, bottom_band(f, tol), Lines::Columns);
+    let left = share(mask, left_band(f, tol), Lines::Rows);
+    let right = share(mask, right_band(f, tol), Lines::Rows);
     select::min(select::min(select::min(top, bottom), left), right)
 }

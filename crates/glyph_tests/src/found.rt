@@ -1,10 +1,11 @@
 // The tests on one glyph box, in the Rust's order.
 ghost use Rattle.std.specs.Prelude.{◌≡◌, ◌≤◌};
-ghost use Rattle.ink.specs.Ink.{ink_at};
+ghost use Rattle.ink.specs.Ink.{inked};
 ghost use Rattle.ink.specs.Steps.{Readable};
 ghost use Rattle.glyph_tests.specs.Steps.{found_in, found_of};
 
 use crate::limits::Limits;
+use ink::Mask;
 use rects::Rect;
 
 // A hollow square: its frame, 1 where it is ticked and 0 where it is empty, and the least of its four edge shares.
@@ -16,9 +17,9 @@ pub struct CheckBox {
 }
 
 // The tests on the frame: none where it is passed over.
-fn test_frame(mask: &[u8], w: usize, f: Rect, l: Limits) -> Option<CheckBox>
-    requires { Readable mask.now w f × (l.box_tolerance_px ≤ 3) }
-    ensures { result ≡ found_in (ink_at w mask.now) l f }
+fn test_frame(mask: &Mask, f: Rect, l: Limits) -> Option<CheckBox>
+    requires { Readable mask.now f × (l.box_tolerance_px ≤ 3) }
+    ensures { result ≡ found_in (inked mask.now) l f }
 {
     let width = f.width();
     let height = f.height();
@@ -28,11 +29,11 @@ fn test_frame(mask: &[u8], w: usize, f: Rect, l: Limits) -> Option<CheckBox>
     if crate::sizes::aspect_missed(width, height, l.box_aspect_tol) {
         return None;
     }
-    let edge_coverage = crate::edges::edge_coverage(mask, w, f, l.box_tolerance_px);
+    let edge_coverage = crate::edges::edge_coverage(mask, f, l.box_tolerance_px);
     if edge_coverage < l.box_edge_coverage {
         return None;
     }
-    let inner = crate::inner::inner_ink(mask, w, f);
+    let inner = crate::inner::inner_ink(mask, f);
     if inner > l.box_max_inner_ink {
         return None;
     }
@@ -44,13 +45,13 @@ fn test_frame(mask: &[u8], w: usize, f: Rect, l: Limits) -> Option<CheckBox>
 }
 
 // The glyph box may be bigger than the box in it (a tick that overshoots it), so its own size test is loose, and the real one is on the frame.
-pub fn test_glyph(mask: &[u8], w: usize, r: Rect, l: Limits) -> Option<CheckBox>
-    requires { Readable mask.now w r × (l.box_tolerance_px ≤ 3) }
-    ensures { result ≡ found_of (ink_at w mask.now) l r }
+pub fn test_glyph(mask: &Mask, r: Rect, l: Limits) -> Option<CheckBox>
+    requires { Readable mask.now r × (l.box_tolerance_px ≤ 3) }
+    ensures { result ≡ found_of (inked mask.now) l r }
 {
     if crate::sizes::size_missed(r.width(), r.height(), l.min_size, l.slack) {
         return None;
     }
-    let f = crate::frame::frame_of(mask, w, r, l.box_overshoot_fraction)?;
-    test_frame(mask, w, f, l)
+    let f = crate::frame::frame_of(mask, r, l.box_overshoot_fraction)?;
+    test_frame(mask, f, l)
 }

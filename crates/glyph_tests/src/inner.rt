@@ -1,10 +1,11 @@
 // The inner half of a frame, and the mark that its ink gives.
 ghost use Rattle.std.specs.Prelude.{◌≡◌, ◌+◌, ◌/◌, ◌^◌, ◌<◌, ◌≤◌, if◌then◌else◌};
 ghost use Rattle.std.specs.Float.Ieee.{le};
-ghost use Rattle.ink.specs.Ink.{ink_at};
+ghost use Rattle.ink.specs.Ink.{inked};
 ghost use Rattle.ink.specs.Steps.{Readable};
 ghost use Rattle.glyph_tests.specs.Tests.{inner_half, inner_ink};
 
+use ink::Mask;
 use rects::Rect;
 
 fn quarter(n: u32) -> u32
@@ -28,12 +29,12 @@ fn inner_half(f: Rect) -> Rect
 }
 
 // The inked share of the inner half.
-pub fn inner_ink(mask: &[u8], w: usize, f: Rect) -> f64
-    requires { Readable mask.now w f }
-    ensures { result ≡ inner_ink (ink_at w mask.now) f }
+pub fn inner_ink(mask: &Mask, f: Rect) -> f64
+    requires { Readable mask.now f }
+    ensures { result ≡ inner_ink (inked mask.now) f }
 {
     let half = inner_half(f);
-    let inked = ink::read::ink_in(mask, w, half);
+    let inked = mask.ink_in(half);
     let total = half.width() * half.height();
     f64::from(inked) / f64::from(total)
 }

@@ -18,7 +18,7 @@ use Rattle.rects.specs.Rects.{width_of, height_of}
 use Rattle.rects.specs.declared.Rect.{Rect}
 use Rattle.ink.specs.declared.Lines.{Lines}
 use Rattle.ink.specs.declared.Lines.TheVariants.{Rows, Columns}
-use Rattle.ink.specs.Ink.{Ink, ink_at, many, row_ink, ink_in_rows}
+use Rattle.ink.specs.Ink.{Ink, Mask, ink_at, inked, many, row_ink, ink_in_rows}
 use Rattle.ink.specs.Steps.{lines_of, Readable}
 
 pub many_more : (q : ℕ → Bool) (n : ℕ) → many q (suc n) ≡ many q n + from_bool (q n)
@@ -60,48 +60,48 @@ none_passes q n h = sym (ap (λ (s : List ℕ). ltb 0 (length s)) (keep_none q n
 -- ---- where the places of a rectangle stand
 
 -- a row of the rectangle ends inside the mask
-pub row_in_mask : (mask : List ℕ) (w : ℕ) (r : Rect) → Readable mask w r → (j : ℕ) → j < height_of r → (r.y0 + j) * w + r.x1 + 1 ≤ length mask
-row_in_mask mask w r R j l =
-    let a : suc (r.y0 + j) * w ≤ suc r.y1 * w = mul-le-mul_right w (omega (arith, R.high)) in
-    omega (arith, suc-mul (r.y0 + j) w, R.right, R.bottom)
+pub row_in_mask : (m : Mask) (r : Rect) → Readable m r → (j : ℕ) → j < height_of r → (r.y0 + j) * m.w + r.x1 + 1 ≤ length m.bytes
+row_in_mask m r R j l =
+    let a : suc (r.y0 + j) * m.w ≤ suc r.y1 * m.w = mul-le-mul_right m.w (omega (arith, R.high)) in
+    omega (arith, suc-mul (r.y0 + j) m.w, R.right, R.bottom)
 
 -- a rectangle inside another is readable too
-pub readable_inside : (mask : List ℕ) (w : ℕ) (r s : Rect) → Readable mask w r → s.x0 ≤ s.x1 → s.y0 ≤ s.y1 → s.x1 ≤ r.x1 → s.y1 ≤ r.y1 → Readable mask w s
-readable_inside mask w r s R a b c d =
+pub readable_inside : (m : Mask) (r s : Rect) → Readable m r → s.x0 ≤ s.x1 → s.y0 ≤ s.y1 → s.x1 ≤ r.x1 → s.y1 ≤ r.y1 → Readable m s
+readable_inside m r s R a b c d =
     record {
       narrow = R.narrow;
       low = omega (arith, R.low);
       wide = a;
       high = b;
       right = omega (arith, R.right);
-      bottom = le_trans (mul-le-mul_right w (omega arith)) R.bottom;
+      bottom = le_trans (mul-le-mul_right m.w (omega arith)) R.bottom;
     }
 
 -- the bytes of a row's span are the ink there
-pub span_ink : (mask : List ℕ) (w : ℕ) (r : Rect) (j s n : ℕ) → s ≡ (r.y0 + j) * w + r.x0 → n ≡ width_of r
-    → many (λ i. not (eqb (get_or (take n (drop s mask)) i 0) 0)) n ≡ row_ink (ink_at w mask) r j
+pub span_ink : (m : Mask) (r : Rect) (j s n : ℕ) → s ≡ (r.y0 + j) * m.w + r.x0 → n ≡ width_of r
+    → many (λ i. not (eqb (get_or (take n (drop s m.bytes)) i 0) 0)) n ≡ row_ink (inked m) r j
 unfolding row_ink ink_at
-span_ink mask w r j s n e f =
-    many_same (λ i. not (eqb (get_or (take n (drop s mask)) i 0) 0)) (λ i. ink_at w mask (r.x0 + i) (r.y0 + j)) n
-    (λ i l. ap (λ (b : ℕ). not (eqb b 0)) (get_or-take n (drop s mask) i 0 l ∙ get_or-drop s mask i 0 ∙ ap (λ (k : ℕ). get_or mask k 0) (place (r.y0 * w + j * w) i)))
-    ∙ ap (λ (k : ℕ). many (λ i. ink_at w mask (r.x0 + i) (r.y0 + j)) k) f
+span_ink m r j s n e f =
+    many_same (λ i. not (eqb (get_or (take n (drop s m.bytes)) i 0) 0)) (λ i. inked m (r.x0 + i) (r.y0 + j)) n
+    (λ i l. ap (λ (b : ℕ). not (eqb b 0)) (get_or-take n (drop s m.bytes) i 0 l ∙ get_or-drop s m.bytes i 0 ∙ ap (λ (k : ℕ). get_or m.bytes k 0) (place (r.y0 * m.w + j * m.w) i)))
+    ∙ ap (λ (k : ℕ). many (λ i. inked m (r.x0 + i) (r.y0 + j)) k) f
   where
-    place : (t i : ℕ) → s + i ≡ (r.y0 + j) * w + (r.x0 + i)
+    place : (t i : ℕ) → s + i ≡ (r.y0 + j) * m.w + (r.x0 + i)
     place t i = omega arith
 
 -- the same for a part of the mask from its start to its end, as it is lent
-pub span_long : (mask : List ℕ) (w : ℕ) (r : Rect) (j : ℕ) {s n e : ℕ} → e ≤ length mask → s ≡ (r.y0 + j) * w + r.x0 → n ≡ width_of r → e ≡ s + n
-    → many (λ i. not (eqb (get_or (take (e - s) (drop s mask)) i 0) 0)) (length (take (e - s) (drop s mask))) ≡ row_ink (ink_at w mask) r j
-span_long mask w r j {s} {n} {e} h p f g =
+pub span_long : (m : Mask) (r : Rect) (j : ℕ) {s n e : ℕ} → e ≤ length m.bytes → s ≡ (r.y0 + j) * m.w + r.x0 → n ≡ width_of r → e ≡ s + n
+    → many (λ i. not (eqb (get_or (take (e - s) (drop s m.bytes)) i 0) 0)) (length (take (e - s) (drop s m.bytes))) ≡ row_ink (inked m) r j
+span_long m r j {s} {n} {e} h p f g =
     let size : e - s ≡ n = omega arith in
-    let long : length (take (e - s) (drop s mask)) ≡ n = length-take-le (e - s) (drop s mask) (omega (arith, length-drop s mask)) ∙ size in
-    ap (λ (k : ℕ). many (λ i. not (eqb (get_or (take (e - s) (drop s mask)) i 0) 0)) k) long
-    ∙ ap (λ (m : ℕ). many (λ i. not (eqb (get_or (take m (drop s mask)) i 0) 0)) n) size
-    ∙ span_ink mask w r j s n p f
+    let long : length (take (e - s) (drop s m.bytes)) ≡ n = length-take-le (e - s) (drop s m.bytes) (omega (arith, length-drop s m.bytes)) ∙ size in
+    ap (λ (k : ℕ). many (λ i. not (eqb (get_or (take (e - s) (drop s m.bytes)) i 0) 0)) k) long
+    ∙ ap (λ (l : ℕ). many (λ i. not (eqb (get_or (take l (drop s m.bytes)) i 0) 0)) n) size
+    ∙ span_ink m r j s n p f
 
-pub row_le : (mask : List ℕ) (w : ℕ) (r : Rect) (j : ℕ) → row_ink (ink_at w mask) r j ≤ width_of r
+pub row_le : (m : Mask) (r : Rect) (j : ℕ) → row_ink (inked m) r j ≤ width_of r
 unfolding row_ink
-row_le mask w r j = many_le (λ i. ink_at w mask (r.x0 + i) (r.y0 + j)) (width_of r)
+row_le m r j = many_le (λ i. inked m (r.x0 + i) (r.y0 + j)) (width_of r)
 
 -- ---- the rows of a rectangle
 
@@ -115,6 +115,6 @@ rows_next ink r j e f = rw (add-one j) (omega arith)
 
 -- ---- lines
 
-pub lines_le : (mask : List ℕ) (w : ℕ) (r : Rect) → Readable mask w r → (lines : Lines) → lines_of r lines ≤ 8192
-lines_le mask w r R Rows = omega (arith, R.low)
-lines_le mask w r R Columns = omega (arith, R.right, R.narrow)
+pub lines_le : (m : Mask) (r : Rect) → Readable m r → (lines : Lines) → lines_of r lines ≤ 8192
+lines_le m r R Rows = omega (arith, R.low)
+lines_le m r R Columns = omega (arith, R.right, R.narrow)

@@ -1,4 +1,4 @@
--- Ink, a test of a place, and how much of it lies in a rectangle. Every definition but `ink_at` and `Readable` is over the test alone.
+-- Ink, a test of a place, and how much of it lies in a rectangle. Every definition but `ink_at`, `inked` and `Readable` is over the test alone.
 use Rattle.std.specs.Prelude.{Bool, not, List, ℕ, zero, suc, ◌+◌, ◌*◌, eqb, length, get_or}
 use Rattle.lists.specs.Lists.{below, keep}
 use Rattle.rects.specs.Rects.{width_of, height_of}
@@ -11,6 +11,15 @@ Ink = ℕ → ℕ → Bool
 -- The ink of a mask of w columns, row by row: a byte that is not 0.
 unfoldable pub ink_at : ℕ → List ℕ → Ink
 ink_at w mask x y = not (eqb (get_or mask (y * w + x) 0) 0)
+
+-- A mask: its bytes, and how many columns it has.
+pub record Mask : Type 0 where
+  pub bytes : List ℕ
+  pub w : ℕ
+
+-- The ink of a mask.
+abbrev pub inked : Mask → Ink
+inked m = ink_at m.w m.bytes
 
 -- How many numbers below n pass a test.
 abbrev pub many : (ℕ → Bool) → ℕ → ℕ

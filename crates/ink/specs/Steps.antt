@@ -1,10 +1,10 @@
 -- What the functions of `ink` and `ink_lines` ask and leave; none of it is needed to read the contracts.
-use Rattle.std.specs.Prelude.{Bool, true, false, List, ℕ, suc, ◌+◌, ◌*◌, ◌≤◌, ◌<◌, length, ◌≡◌}
+use Rattle.std.specs.Prelude.{Bool, true, false, ℕ, suc, ◌+◌, ◌*◌, ◌≤◌, ◌<◌, length, ◌≡◌}
 use Rattle.rects.specs.Rects.{width_of, height_of}
 use Rattle.rects.specs.declared.Rect.{Rect}
 use Rattle.ink.specs.declared.Lines.{Lines}
 use Rattle.ink.specs.declared.Lines.TheVariants.{Rows, Columns}
-use Rattle.ink.specs.Ink.{Ink, row_ink, column_ink}
+use Rattle.ink.specs.Ink.{Ink, Mask, row_ink, column_ink}
 
 -- A line of a rectangle is a row or a column of it: how many there are, how long one is, and its ink.
 abbrev pub lines_of : Rect → Lines → ℕ
@@ -15,14 +15,14 @@ abbrev pub line_ink : Ink → Rect → Lines → ℕ → ℕ
 line_ink ink r Rows k = row_ink ink r k
 line_ink ink r Columns k = column_ink ink r k
 
--- An ordered rectangle on a mask of w columns.
-pub record Readable (mask : List ℕ) (w : ℕ) (r : Rect) : Type 0 where
-  pub narrow : w ≤ 8192
+-- An ordered rectangle on a mask.
+pub record Readable (m : Mask) (r : Rect) : Type 0 where
+  pub narrow : m.w ≤ 8192
   pub low : r.y1 < 8192
   pub wide : r.x0 ≤ r.x1
   pub high : r.y0 ≤ r.y1
-  pub right : r.x1 < w
-  pub bottom : suc r.y1 * w ≤ length mask
+  pub right : r.x1 < m.w
+  pub bottom : suc r.y1 * m.w ≤ length m.bytes
 
 -- What the two are.
 pub record First (q : ℕ → Bool) (n k : ℕ) : Type 0 where

@@ -1,19 +1,12 @@
 // Reading a mask, and counting ink in rows, columns and rectangles.
 ghost use Rattle.std.specs.Prelude.{◌≡◌, not, cond, ◌+◌, ◌*◌, ◌≤◌, ◌<◌, eqb, ltb, length, get_or};
 ghost use Rattle.rects.specs.Rects.{width_of, height_of};
-ghost use Rattle.ink.specs.Ink.{ink_at, many, row_ink, column_ink, ink_in};
+ghost use Rattle.ink.specs.Ink.{inked, many, row_ink, column_ink, ink_in};
 ghost use Rattle.ink.specs.Places.{over};
 ghost use Rattle.ink.specs.Steps.{Readable};
 
+use crate::Mask;
 use rects::Rect;
-
-// Is there ink in column x of row y?
-pub fn is_ink(mask: &[u8], w: usize, x: usize, y: usize) -> bool
-    requires { y * w + x < length mask.now }
-    ensures { result ≡ ink_at w mask.now x y }
-{
-    mask[y * w + x] != 0
-}
 
 // How many bytes of a part of a row are ink.
 fn inked(row: &[u8]) -> u32
@@ -27,73 +20,83 @@ fn inked(row: &[u8]) -> u32
     n
 }
 
-// The ink in row j of a rectangle.
-pub fn row_count(mask: &[u8], w: usize, r: Rect, j: u32) -> u32
-    requires { Readable mask.now w r × (j < height_of r) }
-    ensures { result ≡ row_ink (ink_at w mask.now) r j }
-{
-    let start = (r.y0 + j) as usize * w + r.x0 as usize;
-    let end = start + r.width() as usize;
-    inked(&mask[start..end])
-}
-
-// The ink in column i of a rectangle.
-pub fn column_count(mask: &[u8], w: usize, r: Rect, i: u32) -> u32
-    requires { Readable mask.now w r × (i < width_of r) }
-    ensures { result ≡ column_ink (ink_at w mask.now) r i }
-{
-    let x = (r.x0 + i) as usize;
-    let y = r.y0 as usize;
-    let rows = r.height() as usize;
-    let mut n = 0;
-    for j in 0..rows {
-        n += u32::from(is_ink(mask, w, x, y + j));
+impl Mask<'_> {
+    // Is there ink in column x of row y?
+    pub fn is_ink(&self, x: usize, y: usize) -> bool
+        requires { y * self.now.w + x < length self.now.bytes }
+        ensures { result ≡ inked self.now x y }
+    {
+        self.bytes[y * self.w + x] != 0
     }
-    n
-}
 
-// Is there ink in row j of a rectangle?
-pub fn row_has_ink(mask: &[u8], w: usize, r: Rect, j: u32) -> bool
-    requires { Readable mask.now w r × (j < height_of r) }
-    ensures { result ≡ ltb 0 (row_ink (ink_at w mask.now) r j) }
-{
-    let x = r.x0 as usize;
-    let y = (r.y0 + j) as usize;
-    let columns = r.width() as usize;
-    for i in 0..columns {
-        if is_ink(mask, w, x + i, y) {
-            return true;
+    // The ink in row j of a rectangle.
+    pub fn row_count(&self, r: Rect, j: u32) -> u32
+        requires { Readable self.now r × (j < height_of r) }
+        ensures { result ≡ row_ink (inked self.now) r j }
+    {
+        let start = (r.y0 + j) as usize * self.w + r.x0 as usize;
+        let end = start + r.width() as usize;
+        inked(&self.bytes[start..end])
+    }
+
+    // The ink in column i of a rectangle.
+    pub fn column_count(&self, r: Rect, i: u32) -> u32
+        requires { Readable self.now r × (i < width_of r) }
+        ensures { result ≡ column_ink (inked self.now) r i }
+    {
+        let x = (r.x0 + i) as usize;
+        let y = r.y0 as usize;
+        let rows = r.height() as usize;
+        let mut n = 0;
+        for j in 0..rows {
+            n += u32::from(self.is_ink(x, y + j));
         }
+        n
     }
-    false
-}
 
-// Is there ink in column i of a rectangle?
-pub fn column_has_ink(mask: &[u8], w: usize, r: Rect, i: u32) -> bool
-    requires { Readable mask.now w r × (i < width_of r) }
-    ensures { result ≡ ltb 0 (column_ink (ink_at w mask.now) r i) }
-{
-    let x = (r.x0 + i) as usize;
-    let y = r.y0 as usize;
-    let rows = r.height() as usize;
-    for j in 0..rows {
-        if is_ink(mask, w, x, y + j) {
-            return true;
+    // Is there ink in row j of a rectangle?
+    pub fn row_has_ink(&self, r: Rect, j: u32) -> bool
+        requires { Readable self.now r × (j < height_of r) }
+        ensures { result ≡ ltb 0 (row_ink (inked self.now) r j) }
+    {
+        let x = r.x0 as usize;
+        let y = (r.y0 + j) as usize;
+        let columns = r.width() as usize;
+        for i in 0..columns {
+            if self.is_ink(x + i, y) {
+                return true;
+            }
         }
+        false
     }
-    false
-}
 
-// The ink in a rectangle.
-pub fn ink_in(mask: &[u8], w: usize, r: Rect) -> u32
-    requires { Readable mask.now w r }
-    ensures { result ≡ ink_in (ink_at w mask.now) r }
-{
-    let mut n = 0;
-    for j in 0..r.height() {
-        n += row_count(mask, w, r, j);
+    // Is there ink in column i of a rectangle?
+    pub fn column_has_ink(&self, r: Rect, i: u32) -> bool
+        requires { Readable self.now r × (i < width_of r) }
+        ensures { result ≡ ltb 0 (column_ink (inked self.now) r i) }
+    {
+        let x = (r.x0 + i) as usize;
+        let y = r.y0 as usize;
+        let rows = r.height() as usize;
+        for j in 0..rows {
+            if self.is_ink(x, y + j) {
+                return true;
+            }
+        }
+        false
     }
-    n
+
+    // The ink in a rectangle.
+    pub fn ink_in(&self, r: Rect) -> u32
+        requires { Readable self.now r }
+        ensures { result ≡ ink_in (inked self.now) r }
+    {
+        let mut n = 0;
+        for j in 0..r.height() {
+            n += self.row_count(r, j);
+        }
+        n
+    }
 }
 
 // Is a line with n places of ink over the limit?

@@ -1,21 +1,12 @@
--- Bands of columns that are passed over: none of their columns is over the limit.
+-- Places that are passed over since none of them passes: the first that passes is looked for past them, and the last before them.
 use mathlib.Core.Path.{◌≡◌, sym, ap, ◌∙◌}
 use mathlib.Core.Bool.{Bool, false}
 use Prim.Native.Nat.{ℕ, zero, suc, ◌-◌, ◌≤◌, ◌<◌}
-use native.Mathlib.Decide.{dec_lt, ℕ_discrete}
+use native.Mathlib.Decide.{ℕ_discrete}
 use native.Mathlib.Omega.{arith}
-use lib.Ieee.{Float}
-use Rattle.rects.specs.declared.Rect.{Rect}
-use Rattle.ink.specs.Ink.{Ink}
 use Rattle.ink.specs.Places.{first_from, first_place, last_end}
-use Rattle.ink_bands.specs.Steps.{NoneOver}
 use native.Mathlib.Numerals.{add-one}
 use Rattle.ink.proofs.Places.{first_passed, last_earlier}
-
-module _ (ink : Ink) (r : Rect) (limit : Float) where
-  -- two bands that stand side by side
-  pub none_joined : {i j l : ℕ} → NoneOver ink r limit i j → NoneOver ink r limit j l → NoneOver ink r limit i l
-  none_joined {i} {j} {l} A B k f t = elim (dec_lt k j) [ yes h ↦ A k f h | no h ↦ B k (omega arith) t ]
 
 -- the first that passes is looked for past those that don't
 pub first_past : (q : ℕ → Bool) (n k : ℕ) → k ≤ n → ((i : ℕ) → i < k → q i ≡ false) → first_from q k (n - k) ≡ first_place q n

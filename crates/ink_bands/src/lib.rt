@@ -5,25 +5,25 @@
 ghost use Rattle.std.specs.Int.{from_bool};
 ghost use Rattle.std.specs.Prelude.{◌≡◌, true, ◌+◌, ◌*◌, ◌≤◌, ◌<◌, length};
 ghost use Rattle.rects.specs.Rects.{width_of};
-ghost use Rattle.ink.specs.Ink.{ink_at};
+ghost use Rattle.ink.specs.Ink.{inked};
 ghost use Rattle.ink_bands.specs.Steps.{FourColumns, NoneOver};
 ghost use Rattle.ink.specs.Steps.{Readable};
 
-use ink::read;
+use ink::{Mask, read};
 use rects::Rect;
 
 // One more where a place has ink.
-fn counted(mask: &[u8], w: usize, x: usize, y: usize, n: u32) -> u32
-    requires { (y * w + x < length mask.now) × (n < 8192) }
-    ensures { result ≡ n + from_bool (ink_at w mask.now x y) }
+fn counted(mask: &Mask, x: usize, y: usize, n: u32) -> u32
+    requires { (y * mask.now.w + x < length mask.now.bytes) × (n < 8192) }
+    ensures { result ≡ n + from_bool (inked mask.now x y) }
 {
-    n + u32::from(read::is_ink(mask, w, x, y))
+    n + u32::from(mask.is_ink(x, y))
 }
 
 // The ink in the columns i to i + 3 of a rectangle, side by side.
-fn four_columns(mask: &[u8], w: usize, r: Rect, i: u32) -> [u32; 4]
-    requires { Readable mask.now w r × (i + 4 ≤ width_of r) }
-    ensures { FourColumns (ink_at w mask.now) r i result }
+fn four_columns(mask: &Mask, r: Rect, i: u32) -> [u32; 4]
+    requires { Readable mask.now r × (i + 4 ≤ width_of r) }
+    ensures { FourColumns (inked mask.now) r i result }
 {
     let x = (r.x0 + i) as usize;
     let y = r.y0 as usize;
@@ -33,27 +33,27 @@ fn four_columns(mask: &[u8], w: usize, r: Rect, i: u32) -> [u32; 4]
     let mut c = 0;
     let mut d = 0;
     for j in 0..rows {
-        a = counted(mask, w, x, y + j, a);
-        b = counted(mask, w, x + 1, y + j, b);
-        c = counted(mask, w, x + 2, y + j, c);
-        d = counted(mask, w, x + 3, y + j, d);
+        a = counted(mask, x, y + j, a);
+        b = counted(mask, x + 1, y + j, b);
+        c = counted(mask, x + 2, y + j, c);
+        d = counted(mask, x + 3, y + j, d);
     }
     [a, b, c, d]
 }
 
 // Is none of the columns i to i + 3 over the limit?
-fn none_over(mask: &[u8], w: usize, r: Rect, i: u32, limit: f64) -> bool
-    requires { Readable mask.now w r × (i + 4 ≤ width_of r) }
-    ensures { result ≡ true → NoneOver (ink_at w mask.now) r limit i (i + 4) }
+fn none_over(mask: &Mask, r: Rect, i: u32, limit: f64) -> bool
+    requires { Readable mask.now r × (i + 4 ≤ width_of r) }
+    ensures { result ≡ true → NoneOver (inked mask.now) r limit i (i + 4) }
 {
-    let inks = four_columns(mask, w, r, i);
+    let inks = four_columns(mask, r, i);
     inks.iter().all(|n| !read::is_over(limit, *n))
 }
 
 // How many columns of a tall rectangle may be passed over from the left, since none of them is over the limit.
-pub fn first_columns(mask: &[u8], w: usize, r: Rect, limit: f64) -> u32
-    requires { Readable mask.now w r }
-    ensures { (result ≤ width_of r) × NoneOver (ink_at w mask.now) r limit 0 result }
+pub fn first_columns(mask: &Mask, r: Rect, limit: f64) -> u32
+    requires { Readable mask.now r }
+    ensures { (result ≤ width_of r) × NoneOver (inked mask.now) r limit 0 result }
 {
     if r.height() < 256 {
         return 0;
@@ -62,7 +62,7 @@ pub fn first_columns(mask: &[u8], w: usize, r: Rect, limit: f64) -> u32
     let mut k = 0;
     // `step_by(4)` would be no plainer: it gives the last band too, which may not be whole.
     while k + 4 <= n {
-        if !none_over(mask, w, r, k, limit) {
+        if !none_over(mask, r, k, limit) {
             return k;
         }
         k += 4;
@@ -71,9 +71,9 @@ pub fn first_columns(mask: &[u8], w: usize, r: Rect, limit: f64) -> u32
 }
 
 // Where those end that may be passed over from the right.
-pub fn last_columns(mask: &[u8], w: usize, r: Rect, limit: f64) -> u32
-    requires { Readable mask.now w r }
-    ensures { (result ≤ width_of r) × NoneOver (ink_at w mask.now) r limit result (width_of r) }
+pub fn last_columns(mask: &Mask, r: Rect, limit: f64) -> u32
+    requires { Readable mask.now r }
+    ensures { (result ≤ width_of r) × NoneOver (inked mask.now) r limit result (width_of r) }
 {
     let mut end = r.width();
     if r.height() < 256 {
@@ -82,7 +82,7 @@ pub fn last_columns(mask: &[u8], w: usize, r: Rect, limit: f64) -> u32
     // `step_by(4)` would be no plainer: the bands are cut from the right, and the rest on the left is no band.
     while 4 <= end {
         let from = end - 4;
-        if !none_over(mask, w, r, from, limit) {
+        if !none_over(mask, r, from, limit) {
             return end;
         }
         end = from;

@@ -4,7 +4,6 @@ use Prim.Native.Nat.{ℕ}
 use native.Mathlib.Omega.{arith}
 use lib.Ieee.{Float}
 use Rattle.rects.specs.Rects.{rect_at, width_of}
-use Rattle.rects.proofs.Questions.{has_numbers}
 use Rattle.ink.specs.Ink.{ink_at}
 use Rattle.glyph_tests.specs.declared.limits.Limits.{Limits}
 use Rattle.box_lists.specs.Steps.{Widths, NextWide, Ready}
@@ -25,55 +24,24 @@ onward mask w glyphs l {r = r} R e F N =
     let s = widths R j (omega (arith, b, N.up_to)) in
     narrow_passed (ink_at w mask) l (rect_at glyphs j) (e (width_of (rect_at glyphs j)) (omega (arith, s.0, s.1)) (N.narrow j a b)))
 
-pub next_wide-k-requires : goal.next_wide-k-requires
-next_wide-k-requires c = (widths c.requires, omega arith)
-
 pub loop-k-init : goal.loop-k-init
 loop-k-init c =
     let a = c.args in
-    (c.whole_part-least.ensures, onward a.mask.now a.w a.glyphs.now a.l c.requires c.whole_part-least.ensures (begun a.mask.now a.w a.glyphs.now a.l a.rects.now a.marks.now a.coverages.now) c.next_wide-k.ensures)
-
-pub rect_at-requires : goal.rect_at-requires
-rect_at-requires c = has_numbers _ _ c.loop-k-test.true
-
-pub test_glyph-found-requires : goal.test_glyph-found-requires
-test_glyph-found-requires c =
-    (rw c.rect_at.ensures (c.requires.readable c.loop-k.k c.loop-k-test.true), c.requires.tolerance)
+    (c.whole_part-least.ensures, onward a.mask.now.bytes a.mask.now.w a.glyphs.now a.l c.requires c.whole_part-least.ensures (begun a.mask.now.bytes a.mask.now.w a.glyphs.now a.l a.rects.now a.marks.now a.coverages.now) c.next_wide-k.ensures)
 
 pub store-n-requires : goal.store-n-requires
 store-n-requires c =
     let a = c.args in
-    room a.mask.now a.w a.glyphs.now a.l c.requires c.loop-k.invariant.1 c.loop-k-test.true
-
-pub overflow_add-k : goal.overflow_add-k
-overflow_add-k c =
-    omega (arith, c.loop-k-test.true, c.well_formed.1.1.0.0)
-
-pub next_wide-k-requires-in-loop-k : goal.next_wide-k-requires-in-loop-k
-next_wide-k-requires-in-loop-k c =
-    (widths c.requires, omega (arith, c.loop-k-test.true))
-
-pub loop-k-smaller : goal.loop-k-smaller
-loop-k-smaller c =
-    omega (arith, c.loop-k-test.true, c.next_wide-k-in-loop-k.ensures.later)
+    room a.mask.now.bytes a.mask.now.w a.glyphs.now a.l c.requires c.loop-k.invariant.1 c.loop-k-test.true
 
 pub loop-k-preserved : goal.loop-k-preserved
 loop-k-preserved c =
     let a = c.args in
     let inv = c.loop-k.invariant in
-    let one = turn a.mask.now a.w a.glyphs.now a.l c.requires inv.1 c.loop-k-test.true c.rect_at.ensures c.test_glyph-found.ensures c.store-n.ensures in
-    (inv.0, onward a.mask.now a.w a.glyphs.now a.l c.requires inv.0 one c.next_wide-k-in-loop-k.ensures)
-
-pub shape_of-rects : goal.shape_of-rects
-shape_of-rects c = c.loop-k.invariant.1.rects_long
-
-pub shape_of-marks : goal.shape_of-marks
-shape_of-marks c = c.loop-k.invariant.1.marks_long
-
-pub shape_of-coverages : goal.shape_of-coverages
-shape_of-coverages c = c.loop-k.invariant.1.coverages_long
+    let one = turn a.mask.now.bytes a.mask.now.w a.glyphs.now a.l c.requires inv.1 c.loop-k-test.true c.rect_at.ensures c.test_glyph-found.ensures c.store-n.ensures in
+    (inv.0, onward a.mask.now.bytes a.mask.now.w a.glyphs.now a.l c.requires inv.0 one c.next_wide-k-in-loop-k.ensures)
 
 pub returns : goal.returns
 returns c =
     let a = c.args in
-    done a.mask.now a.w a.glyphs.now a.l c.requires c.loop-k.invariant.1 c.loop-k-test.false
+    done a.mask.now.bytes a.mask.now.w a.glyphs.now a.l c.requires c.loop-k.invariant.1 c.loop-k-test.false

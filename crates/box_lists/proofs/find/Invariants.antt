@@ -14,7 +14,7 @@ Below least x = (n : ℕ) → n ≤ 8192 → n < least → lt (whole n) x ≡ tr
 
 abbrev pub invariant-loop-k : goal.invariant-loop-k
 invariant-loop-k l =
-    (Below l.least l.l.min_size) × Finding l.mask l.w l.glyphs l.l l.initial.rects l.initial.marks l.initial.coverages l.rects l.marks l.coverages l.n l.k
+    (Below l.least l.l.min_size) × Finding l.mask.bytes l.mask.w l.glyphs l.l l.initial.rects l.initial.marks l.initial.coverages l.rects l.marks l.coverages l.n l.k
 
 abbrev pub decreases-loop-k : goal.decreases-loop-k
 decreases-loop-k l = length l.glyphs / 4 - l.k

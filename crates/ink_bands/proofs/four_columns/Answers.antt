@@ -1,12 +1,11 @@
 -- `bands::four_columns` meets its contract: after j turns each number is the ink of the first j places of its column.
 use mathlib.Core.Path.{◌≡◌, refl, ◌∙◌}
 use Prim.Native.Nat.{ℕ, ◌+◌, ◌*◌, ◌<◌}
-use mathlib.Core.List.{List}
 use native.Mathlib.Omega.{arith}
 use lib.ListN.{length}
 use Rattle.rects.specs.Rects.{width_of, height_of}
 use Rattle.rects.specs.declared.Rect.{Rect}
-use Rattle.ink.specs.Ink.{Ink, ink_at, column_ink}
+use Rattle.ink.specs.Ink.{Mask, Ink, inked, column_ink}
 use Rattle.ink.specs.Steps.{Readable}
 use Rattle.ink.proofs.Counts.{many_le, many_next, row_in_mask}
 use Rattle.ink_bands.proofs.four_columns.Invariants.{Tally}
@@ -14,10 +13,10 @@ use Rattle.ink_bands.proofs.four_columns.Goals.{In-loop-j}
 use Rattle.ink_bands.proofs.four_columns.Goals as goal
 
 -- place j of column i stands in the mask, and its count fits
-fits : (mask : List ℕ) (w : ℕ) (r : Rect) (i : ℕ) {j n x : ℕ} → Readable mask w r → i < width_of r → j < height_of r → x ≡ r.x0 + i → Tally (ink_at w mask) x r.y0 j n
-    → ((r.y0 + j) * w + x < length mask) × (n < 8192)
-fits mask w r i {j} {n} {x} R li lj e t =
-    (omega (arith, row_in_mask mask w r R j lj, R.wide), omega (arith, t, many_le (λ k. ink_at w mask x (r.y0 + k)) j, R.low, R.high))
+fits : (m : Mask) (r : Rect) (i : ℕ) {j n x : ℕ} → Readable m r → i < width_of r → j < height_of r → x ≡ r.x0 + i → Tally (inked m) x r.y0 j n
+    → ((r.y0 + j) * m.w + x < length m.bytes) × (n < 8192)
+fits m r i {j} {n} {x} R li lj e t =
+    (omega (arith, row_in_mask m r R j lj, R.wide), omega (arith, t, many_le (λ k. inked m x (r.y0 + k)) j, R.low, R.high))
 
 -- a whole column
 whole : (ink : Ink) (r : Rect) (i : ℕ) {j n x : ℕ} → j ≡ height_of r → x ≡ r.x0 + i → Tally ink x r.y0 j n → n ≡ column_ink ink r i
@@ -27,12 +26,12 @@ whole ink r i e f t = rw (f, e) at t
 -- column i + d at the head of a turn
 here : (c : In-loop-j) (d : ℕ) {n x : ℕ} → d < 4
     → let a = c.args in
-    x ≡ a.r.x0 + (a.i + d) → Tally (ink_at a.w a.mask.now) x a.r.y0 c.loop-j.j n
-    → ((a.r.y0 + c.loop-j.j) * a.w + x < length a.mask.now) × (n < 8192)
+    x ≡ a.r.x0 + (a.i + d) → Tally (inked a.mask.now) x a.r.y0 c.loop-j.j n
+    → ((a.r.y0 + c.loop-j.j) * a.mask.now.w + x < length a.mask.now.bytes) × (n < 8192)
 here c d h e t =
     let a = c.args in
     let p = c.requires in
-    fits a.mask.now a.w a.r (a.i + d) p.0 (omega (arith, p.1)) (omega (arith, c.height-rows.ensures)) e t
+    fits a.mask.now a.r (a.i + d) p.0 (omega (arith, p.1)) (omega (arith, c.height-rows.ensures)) e t
 
 pub counted-a-requires : goal.counted-a-requires
 counted-a-requires c = here c 0 (omega arith) (omega arith) c.loop-j.invariant.0
@@ -49,7 +48,7 @@ counted-d-requires c = here (goal.at.counted-d-requires c).In-loop-j 3 (omega ar
 pub loop-j-preserved : goal.loop-j-preserved
 loop-j-preserved c =
     let a = c.args in
-    let ink = ink_at a.w a.mask.now in
+    let ink = inked a.mask.now in
     let x = a.r.x0 + a.i in (
       c.counted-a.ensures ∙ many_next (λ k. ink x (a.r.y0 + k)) c.loop-j.j c.loop-j.invariant.0 refl,
       c.counted-b.ensures ∙ many_next (λ k. ink (x + 1) (a.r.y0 + k)) c.loop-j.j c.loop-j.invariant.1 refl,
@@ -62,7 +61,7 @@ returns c =
     let a = c.args in
     let v = c.loop-j.invariant in
     let end : c.loop-j.j ≡ height_of a.r = omega (arith, c.height-rows.ensures) in
-    let ink = ink_at a.w a.mask.now in
+    let ink = inked a.mask.now in
     let first = whole ink a.r a.i end refl v.0 in
     let second = whole ink a.r (a.i + 1) end (omega arith) v.1 in
     let third = whole ink a.r (a.i + 2) end (omega arith) v.2 in

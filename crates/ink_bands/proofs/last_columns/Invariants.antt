@@ -1,12 +1,12 @@
 -- `bands::last_columns` meets its contract: each band that is passed over has no column over the limit.
 use Prim.Native.Nat.{◌≤◌}
 use Rattle.rects.specs.Rects.{width_of}
-use Rattle.ink.specs.Ink.{ink_at}
+use Rattle.ink.specs.Ink.{inked}
 use Rattle.ink_bands.specs.Steps.{NoneOver}
 use Rattle.ink_bands.proofs.last_columns.Given as goal
 
 abbrev pub invariant-loop-end : goal.invariant-loop-end
-invariant-loop-end l = (l.end ≤ width_of l.r) × NoneOver (ink_at l.w l.mask) l.r l.limit l.end (width_of l.r)
+invariant-loop-end l = (l.end ≤ width_of l.r) × NoneOver (inked l.mask) l.r l.limit l.end (width_of l.r)
 
 abbrev pub decreases-loop-end : goal.decreases-loop-end
 decreases-loop-end l = l.end

@@ -13,31 +13,28 @@ pub loop-k-init : goal.loop-k-init
 loop-k-init c =
     let a = c.args in
     let few : c.passed_from_front-passed.result ≤ c.lines_of-n.result = omega (arith, c.passed_from_front-passed.ensures.0, c.lines_of-n.ensures) in
-    first_past (test a.mask.now a.w a.r a.lines a.limit) c.lines_of-n.result c.passed_from_front-passed.result few c.passed_from_front-passed.ensures.1
-
-pub line_count-requires : goal.line_count-requires
-line_count-requires c = (c.requires, omega (arith, c.lines_of-n.ensures))
+    first_past (test a.mask.now a.r a.lines a.limit) c.lines_of-n.result c.passed_from_front-passed.result few c.passed_from_front-passed.ensures.1
 
 -- the test of the line in hand
-found : (c : After-is_over) → let a = c.args in c.is_over.result ≡ test a.mask.now a.w a.r a.lines a.limit c.loop-k.k
+found : (c : After-is_over) → let a = c.args in c.is_over.result ≡ test a.mask.now a.r a.lines a.limit c.loop-k.k
 found c = let a = c.args in c.is_over.ensures ∙ ap (over a.limit) c.line_count.ensures
 
 pub returns-then-is_over : goal.returns-then-is_over
 returns-then-is_over c =
     let a = c.args in
-    let q = test a.mask.now a.w a.r a.lines a.limit in
+    let q = test a.mask.now a.r a.lines a.limit in
     sym (first_found q c.lines_of-n.result c.loop-k.k c.loop-k-test.true (sym (found (goal.at.returns-then-is_over c).After-is_over) ∙ c.if-is_over.true)) ∙ c.loop-k.invariant ∙ ap (first_place q) c.lines_of-n.ensures
 
 pub loop-k-preserved : goal.loop-k-preserved
 loop-k-preserved c =
     let a = c.args in
-    let q = test a.mask.now a.w a.r a.lines a.limit in
+    let q = test a.mask.now a.r a.lines a.limit in
     sym (first_passed q c.lines_of-n.result c.loop-k.k c.loop-k-test.true (sym (found (goal.at.loop-k-preserved c).After-is_over) ∙ c.if-is_over.false)) ∙ c.loop-k.invariant
 
 pub returns : goal.returns
 returns c =
     let a = c.args in
-    let q = test a.mask.now a.w a.r a.lines a.limit in
+    let q = test a.mask.now a.r a.lines a.limit in
     let n = c.lines_of-n.result in
     let end : c.loop-k.k ≡ n = omega (arith, c.passed_from_front-passed.ensures.0, c.lines_of-n.ensures) in
     sym (first_none q n n (omega arith)) ∙ rw end at c.loop-k.invariant ∙ ap (first_place q) c.lines_of-n.ensures

@@ -10,17 +10,14 @@ use Rattle.ink_lines.proofs.last_line_end.Invariants.{test}
 use Rattle.ink_lines.proofs.last_line_end.Goals.{After-is_over}
 use Rattle.ink_lines.proofs.last_line_end.Goals as goal
 
-pub line_count-requires : goal.line_count-requires
-line_count-requires c = (c.requires, omega (arith, c.passed_from_back-end.ensures.0))
-
 -- the test of the line in hand
-found : (c : After-is_over) → let a = c.args in c.is_over.result ≡ test a.mask.now a.w a.r a.lines a.limit (c.loop-k.k - 1)
+found : (c : After-is_over) → let a = c.args in c.is_over.result ≡ test a.mask.now a.r a.lines a.limit (c.loop-k.k - 1)
 found c = let a = c.args in c.is_over.ensures ∙ ap (over a.limit) c.line_count.ensures
 
 pub returns-then-is_over : goal.returns-then-is_over
 returns-then-is_over c =
     let a = c.args in
-    let q = test a.mask.now a.w a.r a.lines a.limit in
+    let q = test a.mask.now a.r a.lines a.limit in
     let up : c.loop-k.k - 1 + 1 ≡ c.loop-k.k = omega (arith, c.loop-k-test.true) in
     up
     ∙ sym (last_found q c.loop-k.k c.loop-k-test.true (sym (found (goal.at.returns-then-is_over c).After-is_over) ∙ c.if-is_over.true))
@@ -30,11 +27,11 @@ returns-then-is_over c =
 pub loop-k-preserved : goal.loop-k-preserved
 loop-k-preserved c =
     let a = c.args in
-    let q = test a.mask.now a.w a.r a.lines a.limit in
+    let q = test a.mask.now a.r a.lines a.limit in
     sym (last_passed q c.loop-k.k c.loop-k-test.true (sym (found (goal.at.loop-k-preserved c).After-is_over) ∙ c.if-is_over.false)) ∙ c.loop-k.invariant
 
 pub returns : goal.returns
 returns c =
     let a = c.args in
-    let q = test a.mask.now a.w a.r a.lines a.limit in
+    let q = test a.mask.now a.r a.lines a.limit in
     sym (last_none q c.loop-k.k c.loop-k-test.false) ∙ c.loop-k.invariant ∙ last_before q (lines_of a.r a.lines) c.passed_from_back-end.result c.passed_from_back-end.ensures.0 c.passed_from_back-end.ensures.1

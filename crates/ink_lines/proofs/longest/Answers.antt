@@ -4,7 +4,6 @@ use mathlib.Core.Bool.{Bool, cond}
 use Prim.Native.Nat.{suc, max}
 use Rattle.std.proofs.lemmas.Grind.{common_steps}
 use native.Mathlib.Omega.{arith}
-use Rattle.ink.specs.Places.{longest_run}
 use Rattle.ink.proofs.Counts.{lines_le}
 use Rattle.ink.proofs.Runs.{run_none, longest_none, run_le, run_next, longest_next}
 use Rattle.ink_lines.proofs.longest.Invariants.{test}
@@ -13,29 +12,19 @@ use Rattle.ink_lines.proofs.longest.Goals as goal
 pub loop-k-init : goal.loop-k-init
 loop-k-init c =
     let a = c.args in
-    let q = test a.mask.now a.w a.r a.lines in
+    let q = test a.mask.now a.r a.lines in
     (sym (run_none q), sym (longest_none q))
-
-pub line_has_ink-requires : goal.line_has_ink-requires
-line_has_ink-requires c = (c.requires, omega (arith, c.lines_of-k-end.ensures))
 
 pub longer_run-run-requires : goal.longer_run-run-requires
 longer_run-run-requires c =
     let a = c.args in
-    omega (arith, c.loop-k.invariant.0, run_le (test a.mask.now a.w a.r a.lines) c.loop-k.k, c.loop-k-test.true, c.lines_of-k-end.ensures, lines_le a.mask.now a.w a.r c.requires a.lines)
+    omega (arith, c.loop-k.invariant.0, run_le (test a.mask.now a.r a.lines) c.loop-k.k, c.loop-k-test.true, c.lines_of-k-end.ensures, lines_le a.mask.now a.r c.requires a.lines)
 
 pub loop-k-preserved : goal.loop-k-preserved
 loop-k-preserved c =
     let a = c.args in
-    let q = test a.mask.now a.w a.r a.lines in
+    let q = test a.mask.now a.r a.lines in
     let k = c.loop-k.k in
     let r = run_next q k c.loop-k.invariant.0 (c.longer_run-run.ensures ∙ ap (λ (b : Bool). cond b (suc c.loop-k.run) 0) c.line_has_ink.ensures) in
     let most : c.max-best.result ≡ max c.loop-k.best c.longer_run-run.result = grind (arith, common_steps) in
     (r, longest_next q k c.loop-k.invariant.1 r most)
-
-pub returns : goal.returns
-returns c =
-    let a = c.args in
-    let q = test a.mask.now a.w a.r a.lines in
-    let end : c.loop-k.k ≡ c.lines_of-k-end.result = omega arith in
-    c.loop-k.invariant.1 ∙ ap (longest_run q) (end ∙ c.lines_of-k-end.ensures)

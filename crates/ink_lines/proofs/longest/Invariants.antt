@@ -1,18 +1,17 @@
 -- `lines::longest` meets its contract: `run` is the run that ends at the line in hand, `best` the longest before it.
 use mathlib.Core.Path.{◌≡◌}
 use mathlib.Core.Bool.{Bool}
-use mathlib.Core.List.{List}
 use Prim.Native.Nat.{ℕ}
 use lib.Dec.{ltb}
 use Rattle.rects.specs.declared.Rect.{Rect}
 use Rattle.ink.specs.declared.Lines.{Lines}
-use Rattle.ink.specs.Ink.{ink_at}
+use Rattle.ink.specs.Ink.{Mask, inked}
 use Rattle.ink.specs.Steps.{line_ink}
 use Rattle.ink.specs.Places.{run_before, longest_run}
 use Rattle.ink_lines.proofs.longest.Given as goal
 
-abbrev pub test : List ℕ → ℕ → Rect → Lines → ℕ → Bool
-test mask w r lines k = ltb 0 (line_ink (ink_at w mask) r lines k)
+abbrev pub test : Mask → Rect → Lines → ℕ → Bool
+test m r lines k = ltb 0 (line_ink (inked m) r lines k)
 
 abbrev pub invariant-loop-k : goal.invariant-loop-k
-invariant-loop-k l = (l.run ≡ run_before (test l.mask l.w l.r l.lines) l.k) × (l.best ≡ longest_run (test l.mask l.w l.r l.lines) l.k)
+invariant-loop-k l = (l.run ≡ run_before (test l.mask l.r l.lines) l.k) × (l.best ≡ longest_run (test l.mask l.r l.lines) l.k)

@@ -1,27 +1,15 @@
--- `edges::edge_coverage` meets its contract: the bands are rectangles inside the frame, and the least of their shares is its coverage.
+-- `edges::edge_coverage` meets its contract: the least of their shares is its coverage.
 use Rattle.std.proofs.Common.{ap, ◌∙◌}
 use Rattle.rects.specs.declared.Rect.{Rect}
 use Rattle.ink.specs.declared.Lines.TheVariants.{Rows, Columns}
-use Rattle.ink.specs.Ink.{ink_at}
+use Rattle.ink.specs.Ink.{inked}
 use Rattle.glyph_tests.specs.Steps.{line_share}
-use Rattle.glyph_tests.proofs.Bands.{top_readable, bottom_readable, left_readable, right_readable, edges_are}
+use Rattle.glyph_tests.proofs.Bands.{edges_are}
 use Rattle.glyph_tests.proofs.edges.edge_coverage.Goals as goal
-
-pub share-top-requires : goal.share-top-requires
-share-top-requires c = rw c.top_band.ensures (top_readable c.args.mask.now c.args.w c.args.f c.args.tol c.requires.0)
-
-pub share-bottom-requires : goal.share-bottom-requires
-share-bottom-requires c = rw c.bottom_band.ensures (bottom_readable c.args.mask.now c.args.w c.args.f c.args.tol c.requires.0)
-
-pub share-left-requires : goal.share-left-requires
-share-left-requires c = rw c.left_band.ensures (left_readable c.args.mask.now c.args.w c.args.f c.args.tol c.requires.0)
-
-pub share-right-requires : goal.share-right-requires
-share-right-requires c = rw c.right_band.ensures (right_readable c.args.mask.now c.args.w c.args.f c.args.tol c.requires.0)
 
 pub returns : goal.returns
 returns c =
-    let ink = ink_at c.args.w c.args.mask.now in
+    let ink = inked c.args.mask.now in
     edges_are ink c.args.f c.args.tol c.requires.0.wide c.requires.0.high
     (c.share-top.ensures ∙ ap (λ (r : Rect). line_share ink r Columns) c.top_band.ensures)
     (c.share-bottom.ensures ∙ ap (λ (r : Rect). line_share ink r Columns) c.bottom_band.ensures)

@@ -1,7 +1,7 @@
 -- `frame::frame_of` meets its contract: the first line over the limit from each end.
 use Rattle.std.proofs.Common.{◌<◌, ◌≤◌, arith}
 use Rattle.rects.specs.Rects.{width_of, height_of}
-use Rattle.ink.specs.Ink.{ink_at}
+use Rattle.ink.specs.Ink.{inked}
 use Rattle.glyph_tests.specs.Tests.{top_of, left_of}
 use Rattle.glyph_tests.proofs.Frames.{top_is, bottom_is, left_is, right_is, rows_ordered, columns_ordered, no_row, no_column, framed}
 use Rattle.glyph_tests.proofs.frame.frame_of.Goals.{After-last_line_end-right}
@@ -9,18 +9,18 @@ use Rattle.glyph_tests.proofs.frame.frame_of.Goals as goal
 
 pub returns-then-height-top : goal.returns-then-height-top
 returns-then-height-top c =
-    let a = c.args in let ink = ink_at a.w a.mask.now in let fr = a.fraction in
+    let a = c.args in let ink = inked a.mask.now in let fr = a.fraction in
     no_row ink fr a.r (top_is ink fr a.r c.from.ensures c.width-width.ensures c.first_line-top.ensures) c.height-height.ensures c.if-height-top.true
 
 pub returns-then-width-left : goal.returns-then-width-left
 returns-then-width-left c =
-    let a = c.args in let ink = ink_at a.w a.mask.now in let fr = a.fraction in
+    let a = c.args in let ink = inked a.mask.now in let fr = a.fraction in
     no_column ink fr a.r (top_is ink fr a.r c.from.ensures c.width-width.ensures c.first_line-top.ensures) c.height-height.ensures c.if-height-top.false (left_is ink fr a.r c.from-2.ensures c.height-height.ensures c.first_line-left.ensures) c.width-width.ensures c.if-width-left.true
 
 -- the last column over the limit, and the last row, stand where they can be computed
 columns : (c : After-last_line_end-right) → (c.first_line-left.result < c.last_line_end-right.result) × (c.last_line_end-right.result ≤ width_of c.args.r)
 columns c =
-    let a = c.args in let ink = ink_at a.w a.mask.now in let fr = a.fraction in
+    let a = c.args in let ink = inked a.mask.now in let fr = a.fraction in
     let left = left_is ink fr a.r c.from-2.ensures c.height-height.ensures c.first_line-left.ensures in
     let right = right_is ink fr a.r c.from-2.ensures c.height-height.ensures c.last_line_end-right.ensures in
     let l : left_of ink fr a.r < width_of a.r = omega (arith, left, c.width-width.ensures, c.if-width-left.false) in
@@ -29,7 +29,7 @@ columns c =
 
 rows : (c : After-last_line_end-right) → (c.first_line-top.result < c.last_line_end-bottom.result) × (c.last_line_end-bottom.result ≤ height_of c.args.r)
 rows c =
-    let a = c.args in let ink = ink_at a.w a.mask.now in let fr = a.fraction in
+    let a = c.args in let ink = inked a.mask.now in let fr = a.fraction in
     let top = top_is ink fr a.r c.from.ensures c.width-width.ensures c.first_line-top.ensures in
     let bottom = bottom_is ink fr a.r c.from.ensures c.width-width.ensures c.last_line_end-bottom.ensures in
     let l : top_of ink fr a.r < height_of a.r = omega (arith, top, c.height-height.ensures, c.if-height-top.false) in
@@ -52,6 +52,6 @@ overflow_add-result-4 c =
 
 pub returns : goal.returns
 returns c =
-    let a = c.args in let ink = ink_at a.w a.mask.now in let fr = a.fraction in
+    let a = c.args in let ink = inked a.mask.now in let fr = a.fraction in
     framed ink fr a.r (top_is ink fr a.r c.from.ensures c.width-width.ensures c.first_line-top.ensures) c.height-height.ensures c.if-height-top.false (left_is ink fr a.r c.from-2.ensures c.height-height.ensures c.first_line-left.ensures) c.width-width.ensures c.if-width-left.false
     (bottom_is ink fr a.r c.from.ensures c.width-width.ensures c.last_line_end-bottom.ensures) (right_is ink fr a.r c.from-2.ensures c.height-height.ensures c.last_line_end-right.ensures)
