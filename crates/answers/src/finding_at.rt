@@ -4,6 +4,7 @@ ghost use Rattle.read_findings.specs.Read.{columns, finding_at};
 ghost use Rattle.answers.specs.FindingAt.{of_row, zeros, answer_of};
 
 use evidence::finding::Row;
+use read_findings::lent::FindingLists;
 
 // 1 and the finding's numbers, or all 0 where there is none.
 #[repr(C)]
@@ -79,20 +80,20 @@ fn nothing() -> FindingAtAnswer
     }
 }
 
-pub fn finding_at(
-    rects: &[u32],
-    kinds: &[u32],
-    a: &[u32],
-    b: &[u32],
-    c: &[u32],
-    log_odds: &[f64],
-    first_values: &[f64],
-    first_thresholds: &[f64],
-    first_llrs: &[f64],
-    second_values: &[f64],
-    second_thresholds: &[f64],
-    second_llrs: &[f64],
-    lengths: &[f64],
+pub fn finding_at<'x>(
+    rects: &'x [u32],
+    kinds: &'x [u32],
+    a: &'x [u32],
+    b: &'x [u32],
+    c: &'x [u32],
+    log_odds: &'x [f64],
+    first_values: &'x [f64],
+    first_thresholds: &'x [f64],
+    first_llrs: &'x [f64],
+    second_values: &'x [f64],
+    second_thresholds: &'x [f64],
+    second_llrs: &'x [f64],
+    lengths: &'x [f64],
     count: usize,
     i: usize,
 ) -> FindingAtAnswer
@@ -101,7 +102,7 @@ pub fn finding_at(
         first_values.now first_thresholds.now first_llrs.now
         second_values.now second_thresholds.now second_llrs.now lengths.now) count i) }
 {
-    let answer = read_findings::finding_at(
+    let lists = FindingLists {
         rects,
         kinds,
         a,
@@ -115,9 +116,8 @@ pub fn finding_at(
         second_thresholds,
         second_llrs,
         lengths,
-        count,
-        i,
-    );
+    };
+    let answer = read_findings::finding_at(&lists, count, i);
     match answer {
         Some(f) => of_row(evidence::finding::row_of(f)),
         None => nothing(),

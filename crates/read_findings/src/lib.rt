@@ -3,11 +3,14 @@
 
 ghost use Rattle.std.specs.Prelude.{◌≡◌, [], ◌∷◌, ◌<◌, length, get_or};
 ghost use Rattle.std.specs.Float.{nan};
-ghost use Rattle.read_findings.specs.Read.{finding_with, fold_of, finding_of, columns, all_long, row_at, finding_at};
+ghost use Rattle.read_findings.specs.Read.{finding_with, fold_of, finding_of, all_long, row_at, finding_at};
 ghost use Rattle.read_findings.specs.Steps.{Standing};
+
+pub mod lent;
 
 use evidence::finding::{Evidence, Finding, Kind, Row};
 use layout::rect::PageRect;
+use lent::FindingLists;
 
 // The finding of a row, with what its kind has.
 fn with_kind(row: Row, kind: Kind) -> Finding
@@ -114,94 +117,62 @@ fn evidence_at(values: &[f64], thresholds: &[f64], llrs: &[f64], i: usize) -> Ev
 }
 
 // The row at place i.
-fn row_at(
-    rects: &[u32],
-    kinds: &[u32],
-    a: &[u32],
-    b: &[u32],
-    c: &[u32],
-    log_odds: &[f64],
-    first_values: &[f64],
-    first_thresholds: &[f64],
-    first_llrs: &[f64],
-    second_values: &[f64],
-    second_thresholds: &[f64],
-    second_llrs: &[f64],
-    lengths: &[f64],
-    i: usize,
-) -> Row
-    requires { Standing (columns rects.now kinds.now a.now b.now c.now log_odds.now
-        first_values.now first_thresholds.now first_llrs.now
-        second_values.now second_thresholds.now second_llrs.now lengths.now) i }
-    ensures { result ≡ row_at (columns rects.now kinds.now a.now b.now c.now log_odds.now
-        first_values.now first_thresholds.now first_llrs.now
-        second_values.now second_thresholds.now second_llrs.now lengths.now) i }
+fn row_at(lists: &FindingLists, i: usize) -> Row
+    requires { Standing lists.now i }
+    ensures { result ≡ row_at lists.now i }
 {
-    let r = rects::rect_at(rects, i);
+    let r = rects::rect_at(lists.rects, i);
     let bbox = PageRect {
         x0: r.x0,
         y0: r.y0,
         x1: r.x1,
         y1: r.y1,
     };
-    let first = evidence_at(first_values, first_thresholds, first_llrs, i);
-    let second = evidence_at(second_values, second_thresholds, second_llrs, i);
+    let first = evidence_at(
+        lists.first_values,
+        lists.first_thresholds,
+        lists.first_llrs,
+        i,
+    );
+    let second = evidence_at(
+        lists.second_values,
+        lists.second_thresholds,
+        lists.second_llrs,
+        i,
+    );
     Row {
         bbox,
-        kind: kinds[i],
-        a: a[i],
-        b: b[i],
-        c: c[i],
-        log_odds: log_odds[i],
+        kind: lists.kinds[i],
+        a: lists.a[i],
+        b: lists.b[i],
+        c: lists.c[i],
+        log_odds: lists.log_odds[i],
         first,
         second,
-        length: lengths[i],
+        length: lists.lengths[i],
     }
 }
 
 // The finding at place i of `count`. Places past the count or past the end of a list have none.
-pub fn finding_at(
-    rects: &[u32],
-    kinds: &[u32],
-    a: &[u32],
-    b: &[u32],
-    c: &[u32],
-    log_odds: &[f64],
-    first_values: &[f64],
-    first_thresholds: &[f64],
-    first_llrs: &[f64],
-    second_values: &[f64],
-    second_thresholds: &[f64],
-    second_llrs: &[f64],
-    lengths: &[f64],
-    count: usize,
-    i: usize,
-) -> Option<Finding>
-    ensures { result ≡ finding_at (columns rects.now kinds.now a.now b.now c.now
-        log_odds.now
-        first_values.now first_thresholds.now first_llrs.now
-        second_values.now second_thresholds.now second_llrs.now lengths.now) count i }
+pub fn finding_at(lists: &FindingLists, count: usize, i: usize) -> Option<Finding>
+    ensures { result ≡ finding_at lists.now count i }
 {
-    let whole = (i < rects.len() / 4) & facts_long(kinds, a, b, c, i);
-    let scored = four_long(log_odds, first_values, first_thresholds, first_llrs, i)
-        & four_long(second_values, second_thresholds, second_llrs, lengths, i);
+    let whole = (i < lists.rects.len() / 4) & facts_long(lists.kinds, lists.a, lists.b, lists.c, i);
+    let scored = four_long(
+        lists.log_odds,
+        lists.first_values,
+        lists.first_thresholds,
+        lists.first_llrs,
+        i,
+    ) & four_long(
+        lists.second_values,
+        lists.second_thresholds,
+        lists.second_llrs,
+        lists.lengths,
+        i,
+    );
     if (i < count) & whole & scored {
-        let row = row_at(
-            rects,
-            kinds,
-            a,
-            b,
-            c,
-            log_odds,
-            first_values,
-            first_thresholds,
-            first_llrs,
-            second_values,
-            second_thresholds,
-            second_llrs,
-            lengths,
-            i,
-        );
+        let row = row_at(lists, i);
         return finding_of(row);
     }
     None
