@@ -80,7 +80,9 @@ impl File {
         let plain = text.strip_prefix("pub ").unwrap_or(text);
         if let Some(rest) = plain.strip_prefix("ghost use ") {
             self.read_ghost(rest.to_string(), line)
-        } else if let Some(rest) = plain.strip_prefix("use ") {
+        } else if plain.starts_with("use ") {
+            let whole = self.whole_use(line);
+            let rest = whole.split_once("use ").map_or("", |(_, rest)| rest);
             self.read_use(rest.trim_end_matches(';').to_string());
             Ok(())
         } else if plain.starts_with("struct ") || plain.starts_with("enum ") {
@@ -104,6 +106,18 @@ impl File {
         }
         self.ghosts.extend(found);
         Ok(())
+    }
+
+    /// A `use` from its line to its `;`, on one line.
+    fn whole_use(&self, line: usize) -> String {
+        let mut whole = String::new();
+        for text in &self.lines[line - 1..] {
+            whole += code(text).trim();
+            if whole.ends_with(';') {
+                break;
+            }
+        }
+        whole
     }
 
     /// `use a::b::C` or `use a::b::{C, D}`.

@@ -12,7 +12,7 @@ const PRIMITIVE: [&str; 13] = [
 ];
 const SILENT: [&str; 6] = ["pub", "mut", "fn", "extern", "self", "const"];
 
-/// The words of a line; what stands in quotes is left out.
+/// The words of a line; what stands in quotes is left out, and lifetimes are.
 pub fn words(line: &str, number: usize) -> Vec<Word> {
     let mut found = Vec::new();
     let mut rest = line.trim_start();
@@ -24,10 +24,13 @@ pub fn words(line: &str, number: usize) -> Vec<Word> {
             2
         } else if c == '"' {
             rest[1..].find('"').map_or(rest.len(), |n| n + 2)
+        } else if c == '\'' {
+            let name = rest[1..].find(|c: char| !(c.is_alphanumeric() || c == '_'));
+            name.map_or(rest.len(), |n| n + 1)
         } else {
             c.len_utf8()
         };
-        if c != '"' {
+        if c != '"' && c != '\'' {
             found.push(Word {
                 text: rest[..long].to_string(),
                 line: number,

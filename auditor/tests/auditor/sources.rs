@@ -116,3 +116,20 @@ fn a_declaration_stands_with_its_comment() {
     assert!(declaration(HEADER, "a_three").is_none());
     assert_eq!(declared(HEADER, "a_"), ["a_one", "a_two"]);
 }
+
+#[test]
+fn a_use_of_several_lines_and_lifetimes_are_read() {
+    let source = "\
+use crate::lent::{
+    Bytes, Words,
+};
+
+pub struct Two<'l> {
+    pub first: &'l mut [Words],
+}
+";
+    let file = read("s.rt", source).expect("a file");
+    assert_eq!(file.uses["Words"], ["crate", "lent", "Words"]);
+    let types = &file.structs[0].types;
+    assert_eq!(types, &[(vec!["Words".to_string()], 6)]);
+}

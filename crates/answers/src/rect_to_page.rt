@@ -2,11 +2,11 @@
 // levelled picture's.
 ghost use Rattle.answers.specs.Mapped.{AreaMapped};
 
-use layout::calls::Refused;
 use layout::sides::Sides;
+use layout::tables::Shears;
 use rects::Rect;
 
-// The number of the first missed question, and the page rectangle, all 0 on refusal.
+// The number of the first missed question, as C gets it, and the page rectangle, all 0 on refusal.
 #[repr(C)]
 #[derive(Clone, Copy)]
 pub struct RectToPageAnswer {
@@ -17,6 +17,7 @@ pub struct RectToPageAnswer {
     pub y1: u32,
 }
 
+#[tactic(auto, using(crate::proofs::Answered::area_answered, crate::proofs::Answered::area_refused))]
 pub fn rect_to_page(
     pw: usize,
     ph: usize,
@@ -33,9 +34,13 @@ pub fn rect_to_page(
         (record { x0 = x0; y0 = y0; x1 = x1; y1 = y1 }) result }
 {
     let sides = Sides { pw, ph, w, h };
+    let shears = Shears {
+        sides,
+        shear,
+        shear_x,
+    };
     let r = Rect { x0, y0, x1, y1 };
-    let answer = layout::calls::rect_to_page(sides, shear, shear_x, r);
-    match answer {
+    match layout::calls::rect_to_page(&shears, r) {
         Ok(p) => RectToPageAnswer {
             number: 0,
             x0: p.x0,
@@ -43,8 +48,8 @@ pub fn rect_to_page(
             x1: p.x1,
             y1: p.y1,
         },
-        Err(Refused(number)) => RectToPageAnswer {
-            number,
+        Err(question) => RectToPageAnswer {
+            number: question.number(),
             x0: 0,
             y0: 0,
             x1: 0,

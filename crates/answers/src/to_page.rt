@@ -2,11 +2,11 @@
 // levelled picture's.
 ghost use Rattle.answers.specs.Mapped.{PlaceMapped};
 
-use layout::calls::Refused;
 use layout::page::Levelled;
 use layout::sides::Sides;
+use layout::tables::Shears;
 
-// The number of the first missed question, and the page place, 0 and 0 on refusal.
+// The number of the first missed question, as C gets it, and the page place, 0 and 0 on refusal.
 #[repr(C)]
 #[derive(Clone, Copy)]
 pub struct ToPageAnswer {
@@ -15,6 +15,7 @@ pub struct ToPageAnswer {
     pub y: i64,
 }
 
+#[tactic(auto, using(crate::proofs::Answered::place_answered, crate::proofs::Answered::place_refused))]
 pub fn to_page(
     pw: usize,
     ph: usize,
@@ -28,13 +29,21 @@ pub fn to_page(
     ensures { PlaceMapped (record { pw = pw; ph = ph; w = w; h = h }) shear.now shear_x.now (record { 0 = x; 1 = y }) result }
 {
     let sides = Sides { pw, ph, w, h };
-    let answer = layout::calls::to_page(sides, shear, shear_x, Levelled(x, y));
-    match answer {
+    let shears = Shears {
+        sides,
+        shear,
+        shear_x,
+    };
+    match layout::calls::to_page(&shears, Levelled(x, y)) {
         Ok(p) => ToPageAnswer {
             number: 0,
             x: p.0,
             y: p.1,
         },
-        Err(Refused(number)) => ToPageAnswer { number, x: 0, y: 0 },
+        Err(question) => ToPageAnswer {
+            number: question.number(),
+            x: 0,
+            y: 0,
+        },
     }
 }

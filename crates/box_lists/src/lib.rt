@@ -1,7 +1,7 @@
 // The boxes of a page, written as they are found.
 #![tactic(auto)]
 
-ghost use Rattle.std.specs.Prelude.{◌+◌, ◌≤◌, ◌<◌};
+ghost use Rattle.std.specs.Prelude.{◌≤◌};
 ghost use Rattle.rects.specs.Rects.{count};
 ghost use Rattle.box_lists.specs.Steps.{RoomAt, Stored, Widths, NextWide, Ready, Made};
 

@@ -1,6 +1,6 @@
 // The joining of boxes along one doubled centre: they are swept in its order, so that each is held only against those behind it whose
 // centre is near.
-ghost use Rattle.std.specs.Prelude.{◌≡◌, cond, ◌+◌, ◌≤◌, ◌<◌, ◌^◌, max, length, drop};
+ghost use Rattle.std.specs.Prelude.{◌≡◌, cond, ◌+◌, ◌≤◌, ◌<◌, ◌^◌, length, drop};
 ghost use Rattle.rects.specs.Rects.{count};
 ghost use Rattle.sorted.specs.Steps.{SortRoom, InOrder};
 ghost use Rattle.box_widths.specs.Steps.{PassedBoxes};

@@ -2,7 +2,7 @@
 #![tactic(auto)]
 
 ghost use Rattle.std.specs.Prelude.{◌≡◌, true, ◌<◌};
-ghost use Rattle.rects.specs.Rects.{width_of, count, rect_at, distance};
+ghost use Rattle.rects.specs.Rects.{width_of, count, rect_at};
 ghost use Rattle.rects.specs.Steps.{Inside};
 ghost use Rattle.sets.specs.Steps.{Joined, Parents, root};
 ghost use Rattle.box_widths.specs.Widths.{similar};

@@ -1,5 +1,5 @@
 -- What a page is once its questions were answered yes: every glyph box lies on the ink, so it can be read, and there is room for as many boxes.
-use mathlib.Core.Path.{◌≡◌}
+use mathlib.Core.Path.{◌≡◌, sym}
 use mathlib.Core.Bool.{◌&&◌}
 use mathlib.Core.List.{List, [], ◌∷◌}
 use Prim.Native.Nat.{ℕ, suc, ◌*◌, ◌≤◌}
@@ -49,10 +49,10 @@ ready w h dpi xheight mask glyphs p a b full inside S rects marks coverages =
     }
 
 -- a page that `boxes` accepts
-pub accepted_ready : (g : Given) (l : Lent) → first_missed (questions g l) ≡ 0
+pub accepted_ready : (g : Given) (l : Lent) → 0 ≡ first_missed (questions g l)
     → Ready g.ink g.w g.glyphs (box_limits_of g.dpi g.xheight g.settings) l.rects l.marks l.coverages
 accepted_ready g l none =
-    let parts = yes_parts (given_questions g) ((14, has_room g l) ∷ []) (all_yes (questions g l) tt none) in
+    let parts = yes_parts (given_questions g) ((14, has_room g l) ∷ []) (all_yes (questions g l) tt (sym none)) in
     let yes = parts.0 in
     let sides = sides_say g.w g.h yes.0 in
     let n = count g.glyphs in

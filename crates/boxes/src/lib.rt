@@ -8,7 +8,7 @@ mod guard;
 use ink::Mask;
 use params::settings::RulingsParams;
 
-// The number of the first missed question, 0 where the page is accepted, and the number of boxes.
+// C's struct: the number of the first missed question, 0 where the page is accepted, and the number of boxes.
 #[repr(C)]
 #[derive(Clone, Copy)]
 pub struct Answer {
@@ -41,9 +41,13 @@ pub fn boxes(
         (record { rects = rects.old; marks = marks.old; coverages = coverages.old })
         (record { rects = rects.new; marks = marks.new; coverages = coverages.new }) result }
 {
-    let number = guard::missed(w, h, dpi, xheight, ink, glyphs, p, rects, marks, coverages);
-    if number != 0 {
-        return Answer { number, count: 0 };
+    if let Err(missed) = guard::missed(
+        w, h, dpi, xheight, ink, glyphs, p, rects, marks, coverages,
+    ) {
+        return Answer {
+            number: missed.number(),
+            count: 0,
+        };
     }
     let l = glyph_tests::limits::limits_of(dpi, xheight, p);
     let mask = Mask { bytes: ink, w };

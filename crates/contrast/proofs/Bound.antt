@@ -82,14 +82,14 @@ mean_small dark bytes some few =
 
 -- ---- their difference
 
-pub contrast_small : (raster : List ℕ) (w h : ℕ) (r : Rect) (horizontal : Bool) → Bytes raster → OnPicture raster w h r → AtMost 510 (contrast_of raster w h r horizontal)
+pub contrast_small : (raster : List ℕ) (w h : ℕ) (r : Rect) (horizontal : Bool) → Bytes raster → OnPicture (record { pixels = raster; w = w; h = h }) r → AtMost 510 (contrast_of raster w h r horizontal)
 unfolding contrast_of
 contrast_small raster w h r horizontal bytes on =
     let dark = darkest raster w r horizontal in
     let level = median (samples raster w h r horizontal) in
     let bright : level ≤ 255 = median_small (samples raster w h r horizontal) (samples_small raster w bytes h r horizontal) in
     let number = darkest_number raster w r horizontal in
-    let fit = places_fit raster w h r horizontal on in
+    let fit = places_fit (record { pixels = raster; w = w; h = h }) r horizontal on in
     sub_at_most binary64 255 255 (whole level) (div binary64 (pairwise_sum (map whole dark)) (whole (length dark)))
     (value_at_most 255 (whole level) false level 1 (pow_pos 0) (omega arith) (whole_value level (omega arith)))
     (mean_small dark (darkest_bytes raster w r horizontal) (omega arith) (omega arith)) (lit< tt)

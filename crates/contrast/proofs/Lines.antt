@@ -1,15 +1,13 @@
 -- The darkest pixels across a ruling: by rows, and by columns that are darkened row by row.
-use mathlib.Core.Path.{◌≡◌, refl, sym, ap, ap₂, ◌∙◌}
+use mathlib.Core.Path.{◌≡◌, sym, ap, ap₂, ◌∙◌}
 use mathlib.Core.Bool.{Bool, true, false}
 use mathlib.Core.List.{List, [], ◌∷◌, ◌++◌, map, append_assoc, append-nil}
 use Prim.Native.Nat.{ℕ, zero, suc, ◌+◌, ◌-◌, ◌*◌, ◌<◌, ◌≤◌, min}
-use native.Mathlib.Nat.{add-mul, mul_comm, add-zero, add-suc, add_assoc, min_comm, min-le_right, le_trans, le_refl, not-suc-le-zero, eq-or-lt_of_le, le_of_suc-le-suc}
+use native.Mathlib.Nat.{add-mul, mul_comm, add-zero, add-suc, add_assoc, min_comm, min-le_right, le_trans, le_refl, eq-or-lt_of_le, le_of_suc-le-suc}
 use mathlib.Core.Logic.{inl, inr}
-use native.Mathlib.Decide.{ℕ_discrete}
 use native.Mathlib.Numerals.{add-one}
 use native.Mathlib.Omega.{arith}
-use lib.ListN.{length, get_or, set, length-map}
-use lib.Seq.{get_or-set_same, get_or-set_other}
+use lib.ListN.{length, get_or, length-map}
 use Rattle.lists.specs.Lists.{below}
 use Rattle.lists.proofs.Keep.{values_more, length_values, map_map, map_same, map_append, below_in}
 use Rattle.math.specs.Sum.{total}
@@ -68,18 +66,8 @@ pub record DarkenedTo (raster : List ℕ) (start i : ℕ) (least least' : List �
   pub done : (j : ℕ) → j < i → get_or least' j 0 ≡ min (get_or least j 0) (get_or raster (start + j) 0)
   pub left : (j : ℕ) → i ≤ j → get_or least' j 0 ≡ get_or least j 0
 
-pub darkened_none : (raster : List ℕ) (start : ℕ) (least : List ℕ) → DarkenedTo raster start 0 least least
-darkened_none raster start least = record { done = λ j l. absurd (not-suc-le-zero l); left = λ j l. refl }
-
 earlier : (j i : ℕ) → j < i + 1 → (j ≡ i → ⊥) → j < i
 earlier j i l q = elim (eq-or-lt_of_le (le_of_suc-le-suc (rw add-one at l))) [ inl e ↦ absurd (q e) | inr h ↦ h ]
-
-pub darkened_next : (raster : List ℕ) (start i v : ℕ) (least least' : List ℕ) → i < length least' → v ≡ min (get_or least' i 0) (get_or raster (start + i) 0) → DarkenedTo raster start i least least' → DarkenedTo raster start (i + 1) least (set least' i v)
-darkened_next raster start i v least least' inside e d = record { done = λ j l. go j l (ℕ_discrete j i); left = λ j l. get_or-set_other least' i j v 0 (λ q. absurd (omega arith)) ∙ d.left j (omega arith) }
-  where
-    go : (j : ℕ) → j < i + 1 → Dec (j ≡ i) → get_or (set least' i v) j 0 ≡ min (get_or least j 0) (get_or raster (start + j) 0)
-    go j l (yes q) = rw q (get_or-set_same least' i v 0 inside ∙ e ∙ ap (λ (a : ℕ). min a (get_or raster (start + i) 0)) (d.left i (le_refl i)))
-    go j l (no q) = get_or-set_other least' i j v 0 q ∙ d.done j (earlier j i l q)
 
 -- the sum of the entries is that of the columns
 pub columns_sum : (raster : List ℕ) (start n rows w : ℕ) (least : List ℕ) → Darkened raster start n rows w least → total (map (λ i. get_or least i 0) (below n)) ≡ total (columns_darkest raster start n rows w)
@@ -105,10 +93,6 @@ sum_split raster start i k rows w =
     let f : ℕ → ℕ = λ j. darkest_of (line raster (start + j) rows w) in
     ap total (values_split f i k) ∙ total_append (map f (below i)) (map (λ j. f (i + j)) (below k))
     ∙ ap (λ (s : List ℕ). total (map f (below i)) + total s) (values_same (λ j. f (i + j)) (λ j. darkest_of (line raster (start + i + j) rows w)) k (λ j. ap (λ (a : ℕ). darkest_of (line raster a rows w)) (sym (add_assoc start i j))))
-
--- a part of rows that lie in the raster
-pub part_inside : (raster : List ℕ) (start n rows w i k : ℕ) → RowsInside raster start n rows w → i + k ≤ n → RowsInside raster (start + i) k rows w
-part_inside raster start n rows w i k inside l j h = omega (arith, inside j h)
 
 pub columns_le : (raster : List ℕ) (start n rows w : ℕ) → total (columns_darkest raster start n rows w) ≤ 255 * n
 columns_le raster start n rows w =

@@ -1,16 +1,16 @@
 -- What the functions of `contrast` ask and leave; none of it is needed to read the contracts.
 use Rattle.std.specs.Prelude.{◌≡◌, ℕ, ◌*◌, ◌≤◌, ◌+◌, ◌<◌, Bool, cond, List, map, length, get_or, Float}
 use Rattle.rects.specs.declared.Rect.{Rect}
-use Rattle.paper.specs.Pixels.{darkest_of}
+use Rattle.paper.specs.Pixels.{Raster, darkest_of}
 use Rattle.contrast.specs.Contrast.{contrast_of, NearContrast}
 use Rattle.lists.specs.Lists.{below}
 use Rattle.rects.specs.Rects.{width_of, height_of}
 use Rattle.paper.specs.Steps.{line}
 
 -- What is promised of a ruling's contrast x.
-pub record Contrasted (raster : List ℕ) (w h : ℕ) (r : Rect) (horizontal : Bool) (x : Float) : Type 0 where
-  pub value : x ≡ contrast_of raster w h r horizontal
-  pub near : NearContrast raster w h r horizontal x
+pub record Contrasted (raster : Raster) (r : Rect) (horizontal : Bool) (x : Float) : Type 0 where
+  pub value : x ≡ contrast_of raster.pixels raster.w raster.h r horizontal
+  pub near : NearContrast raster.pixels raster.w raster.h r horizontal x
 
 -- For each of n columns from start on, the darkest pixel of some rows of a raster that is w wide.
 abbrev pub columns_darkest : List ℕ → ℕ → ℕ → ℕ → ℕ → List ℕ

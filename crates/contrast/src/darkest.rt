@@ -6,49 +6,52 @@ ghost use Rattle.paper.specs.Steps.{OnPicture, line};
 ghost use Rattle.contrast.specs.Steps.{rows_darkest, RowsInside, places_along};
 ghost use Rattle.paper.specs.Pixels.{darkest, darkest_of};
 
+use paper::Raster;
 use rects::Rect;
 
 // The darkest of n pixels from start on.
-fn darkest_of(raster: &[u8], start: usize, n: usize) -> u8
-    requires { start + n ≤ length raster.now }
-    ensures { result ≡ darkest_of (line raster.now start n 1) }
+fn darkest_of(pixels: &[u8], start: usize, n: usize) -> u8
+    requires { start + n ≤ length pixels.now }
+    ensures { result ≡ darkest_of (line pixels.now start n 1) }
 {
     let mut least = 255u8;
-    for p in &raster[start..start + n] {
+    for p in &pixels[start..start + n] {
         least = least.min(*p);
     }
     least
 }
 
 // The sum over n rows, of the darkest of some columns.
-fn sum_of_rows(raster: &[u8], start: usize, n: usize, columns: usize, w: usize) -> u32
-    requires { (n ≤ 8192) × RowsInside raster.now start columns n w }
-    ensures { result ≡ total (rows_darkest raster.now start n columns w) }
+fn sum_of_rows(raster: &Raster, start: usize, n: usize, columns: usize) -> u32
+    requires { (n ≤ 8192) × RowsInside raster.now.pixels start columns n raster.now.w }
+    ensures { result ≡ total (rows_darkest raster.now.pixels start n columns raster.now.w) }
 {
+    let pixels = raster.pixels;
+    let w = raster.w;
     let mut sum = 0;
     for i in 0..n {
-        sum += u32::from(darkest_of(raster, start + i * w, columns));
+        sum += u32::from(darkest_of(pixels, start + i * w, columns));
     }
     sum
 }
 
 // The sum of the darkest pixels.
-pub fn darkest_sum(raster: &[u8], w: usize, h: usize, r: Rect, horizontal: bool) -> u32
-    requires { OnPicture raster.now w h r }
-    ensures { result ≡ total (darkest raster.now w r horizontal) }
+pub fn darkest_sum(raster: &Raster, r: Rect, horizontal: bool) -> u32
+    requires { OnPicture raster.now r }
+    ensures { result ≡ total (darkest raster.now.pixels raster.now.w r horizontal) }
 {
-    let start = r.y0 as usize * w + r.x0 as usize;
+    let start = r.y0 as usize * raster.w + r.x0 as usize;
     let columns = r.width() as usize;
     let rows = r.height() as usize;
     if horizontal {
-        return crate::columns::sum_of_columns(raster, start, columns, rows, w);
+        return crate::columns::sum_of_columns(raster, start, columns, rows);
     }
-    sum_of_rows(raster, start, rows, columns, w)
+    sum_of_rows(raster, start, rows, columns)
 }
 
 // How many places there are along a ruling.
-pub fn along(w: usize, h: usize, r: Rect, horizontal: bool) -> u32
-    requires { (w ≤ 8192) × (h ≤ 8192) × Inside w h r }
+pub fn along(r: Rect, horizontal: bool) -> u32
+    requires { Inside 8192 8192 r }
     ensures { result ≡ places_along r horizontal }
 {
     if horizontal {

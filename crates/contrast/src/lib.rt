@@ -7,16 +7,18 @@ ghost use Rattle.contrast.specs.Steps.{Contrasted};
 mod columns;
 mod darkest;
 
+use paper::Raster;
 use rects::Rect;
 
-pub fn contrast(raster: &[u8], w: usize, h: usize, r: Rect, horizontal: bool) -> f64
-    requires { OnPicture raster.now w h r }
-    ensures { Contrasted raster.now w h r horizontal result }
+// `horizontal` is what the ruling is, as `ruling_lists` has it.
+pub fn contrast(raster: &Raster, r: Rect, horizontal: bool) -> f64
+    requires { OnPicture raster.now r }
+    ensures { Contrasted raster.now r horizontal result }
 {
     let mut counts = [0u32; 256];
-    let n = paper::samples::sample(raster, w, h, r, horizontal, &mut counts);
+    let n = raster.sample(r, horizontal, &mut counts);
     let level = f64::from(paper::level::level(&counts, n));
-    let sum = f64::from(darkest::darkest_sum(raster, w, h, r, horizontal));
-    let along = f64::from(darkest::along(w, h, r, horizontal));
+    let sum = f64::from(darkest::darkest_sum(raster, r, horizontal));
+    let along = f64::from(darkest::along(r, horizontal));
     level - sum / along
 }

@@ -10,7 +10,7 @@ use lib.ListN.{length}
 use borrow.Author.Tests.{eq-eqb, ne_eqb, ltb-true}
 use Rattle.lists.proofs.Every.{and_first, and_second}
 use Rattle.questions.specs.Questions.{Question, first_missed}
-use Rattle.questions.proofs.FirstMissed.{in_two_parts}
+use Rattle.questions.proofs.FirstMissed.{in_two_parts, all_yes, none_missed, yes_parts}
 use Rattle.layout.specs.Level.{Levelling}
 use Rattle.layout.proofs.Levelling.{levelled_is}
 use Rattle.params.specs.Limits.{across_limit, gap_limit, align_limit}
@@ -66,21 +66,11 @@ module _ (g : Page) (l : Lent) where
         demand3 = λ z. absurd (n (sym number ∙ z));
       }
 
-  -- a page that misses one of questions 1 to 13
-  pub first_missed_lem : {q : ℕ} → q ≡ first_missed (given_questions g) → (q ≡ 0 → ⊥) → q ≡ first_missed (first_questions g l)
-  first_missed_lem {q} e n =
-      e ∙ sym (in_two_parts (given_questions g) ((14, roomy g l) ∷ []) tt ∙ ap (λ (b : Bool). cond b (first_missed ((14, roomy g l) ∷ [])) (first_missed (given_questions g))) (ne_eqb (first_missed (given_questions g)) 0 (λ z. n (e ∙ z))))
-
-  passed_given : first_missed (given_questions g) ≡ 0 → first_missed (first_questions g l) ≡ cond (roomy g l) 0 14
-  passed_given z = in_two_parts (given_questions g) ((14, roomy g l) ∷ []) tt ∙ ap (λ (b : Bool). cond b (first_missed ((14, roomy g l) ∷ [])) (first_missed (given_questions g))) (eq-eqb (first_missed (given_questions g)) 0 z)
-
-  -- a page that misses question 14
-  pub room_missed : first_missed (given_questions g) ≡ 0 → roomy g l ≡ false → 14 ≡ first_missed (first_questions g l)
-  room_missed z r = sym (passed_given z ∙ ap {B = ℕ} (λ (b : Bool). cond b 0 14) r)
-
-  -- a page that misses neither
-  passed : first_missed (given_questions g) ≡ 0 → roomy g l ≡ true → first_missed (first_questions g l) ≡ 0
-  passed z r = passed_given z ∙ ap {B = ℕ} (λ (b : Bool). cond b 0 14) r
+  -- a page that misses none of questions 1 to 14
+  pub passed : first_missed (first_questions g l) ≡ 0 → Passed g l
+  passed z =
+      let y = yes_parts (given_questions g) ((14, roomy g l) ∷ []) (all_yes (first_questions g l) tt z) in
+      record { given = none_missed (given_questions g) y.0; room = y.1.0 }
 
   -- ---- accepted, or 15
 
@@ -93,13 +83,14 @@ module _ (g : Page) (l : Lent) where
   counted true n c {a} e = subst (λ (x : Answer). x ≡ cond (eqb x.number 0) (accepted n c) (refusal x.number)) (sym e) refl
   counted false n c {a} e = subst (λ (x : Answer). x ≡ cond (eqb x.number 0) (accepted n c) (refusal x.number)) (sym e) refl
 
-  pub answered : {l' : Lent} {n : Counts} {c : ℕ} {finite : Bool} {a : Answer} → Passed g l → Found g l l' n c finite → a ≡ cond finite (accepted n c) (refusal 15) → Detect g l l' a
-  answered {l'} {n} {c} {finite} {a} Q W s =
-      let K = known g Q.given in
-      let D = W.filled in
+  pub answered : {l' : Lent} {n : Counts} {c : ℕ} {finite : Bool} {a : Answer} → first_missed (first_questions g l) ≡ 0 → Found g l l' n c finite → a ≡ cond finite (accepted n c) (refusal 15) → Detect g l l' a
+  answered {l'} {n} {c} {finite} {a} z W s =
+      let K = known g (passed z).given in
+      let D = W.rules in
+      let M = W.marks in
       let F = W.found in
       let many : c ≡ length (Page.findings g) = F.number ∙ sym F.paired.order.1.as_many in
-      let e = D.counts in
+      let e = W.counts in
       let s' : a ≡ cond finite (accepted (counts_of g) (length (Page.findings g))) (refusal 15) = s ∙ (λ i. cond finite (accepted (e i) (many i)) (refusal 15)) in
       let P = Params.limits g.settings g.xheight K.settled in
       let number : a.number ≡ cond finite 0 15 = number_of finite (counts_of g) (length (Page.findings g)) s' in
@@ -108,11 +99,11 @@ module _ (g : Page) (l : Lent) where
             number
             ∙ ap {B = ℕ} (λ (b : Bool). cond b 0 15) F.found.all_finite
             ∙ sym (in_two_parts (first_questions g l) ((15, every_finite (Page.made g)) ∷ []) tt
-            ∙ ap (λ (b : Bool). cond b (first_missed ((15, every_finite (Page.made g)) ∷ [])) (first_missed (first_questions g l))) (eq-eqb (first_missed (first_questions g l)) 0 (passed Q.given Q.room)));
+            ∙ ap (λ (b : Bool). cond b (first_missed ((15, every_finite (Page.made g)) ∷ [])) (first_missed (first_questions g l))) (eq-eqb (first_missed (first_questions g l)) 0 z));
         counts = counted finite (counts_of g) (length (Page.findings g)) s';
         refused = λ not0 not15. absurd (neither finite not0 not15 number);
         raster = λ _. (D.levelled, subst (Levelling g.sides g.gray g.shear g.shear_x) (sym D.levelled) (levelled_is g.sides g.shear g.shear_x K.sheared g.gray));
-        answers = λ _. record { rules = D.rules; marks = D.marks; found = F.found.lists };
+        answers = λ _. record { rules = D.answers; marks = M.answers; found = F.found.lists };
         limits = λ _. record { across = P.across.is; gap = P.gap.is; join = P.join.is; line = P.line.is; align = P.align.is };
         rulings = λ _. record {
           order = Segments.in_order g.pieces (across_limit g.settings g.xheight) (gap_limit g.settings g.xheight) (all_wider g.pieces K.sides.w_most K.sides.h_most K.pieces);
@@ -125,8 +116,8 @@ module _ (g : Page) (l : Lent) where
           printed_read = D.printed_read;
           every_box = every_box (ink_at g.sides.w g.ink) (box_limits_of g.dpi g.xheight g.settings) g.glyphs;
           boxes = Grids.demand3 (Page.box_rects g) (align_limit g.settings g.xheight) g.settings.grid_min_boxes;
-          boxes_read = D.boxes_read;
-          reading_read = D.reading_read;
+          boxes_read = M.boxes_read;
+          reading_read = M.reading_read;
           findings = F.paired;
         };
       }

@@ -1,5 +1,3 @@
 -- Why `detect` keeps its promise.
-mod Kept
-mod Fits
 mod Finds
 mod Answering

@@ -1,276 +1,44 @@
 // The page as one call: the questions, then what is on it, then its findings.
 #![tactic(auto)]
 
-ghost use Rattle.std.specs.Prelude.{map};
-ghost use Rattle.page.specs.Lent.{list_at};
-ghost use Rattle.page.specs.Call.{Detect};
+pub mod lists_apart;
 
-use layout::sides::Sides;
+ghost use Rattle.page.specs.Lent.{lent};
+ghost use Rattle.page.specs.Call.{Detect};
+ghost use Rattle.page.specs.Steps.{SameRules, SameMarks};
+ghost use Rattle.finding_lists.specs.Steps.{SameFindings};
+
+use finding_lists::lent::LentFindings;
 use page::answer::Answer;
-use params::settings::{FusionParams, RulingsParams};
+use page::counts::Counts;
+use page::given::Page;
+use page::lent::{LentMarks, LentRules};
 
 pub fn detect(
-    sides: Sides,
-    dpi: u16,
-    xheight: f64,
-    p: RulingsParams,
-    f: FusionParams,
-    gray: &[u8],
-    ink: &[u8],
-    shear: &[i32],
-    shear_x: &[i32],
-    pieces: &[u32],
-    glyphs: &[u32],
-    levelled: &mut [&mut [u8]; 1],
-    rects: &mut [&mut [u32]; 2],
-    tags: &mut [&mut [u32]; 2],
-    values: &mut [&mut [f64]; 3],
-    chosen: &mut [&mut [u32]; 2],
-    rest: &mut [&mut [u32]; 2],
-    members: &mut [&mut [u32]; 3],
-    ends: &mut [&mut [u32]; 3],
-    numbers: &mut [&mut [u32]; 2],
-    bounds: &mut [&mut [u32]; 1],
-    rows: &mut [&mut [u32]; 1],
-    columns: &mut [&mut [u32]; 1],
-    rulings: &mut [&mut [u32]; 1],
-    page: &mut [&mut [u32]; 1],
-    facts: &mut [&mut [u32]; 4],
-    scores: &mut [&mut [f64]; 8],
-    parents: &mut [&mut [u32]; 2],
-    order: &mut [&mut [u32]; 2],
-    listed: &mut [&mut [u32]; 1],
-    listed_ends: &mut [&mut [u32]; 1],
-    keys: &mut [&mut [u64]; 1],
-    box_keys: &mut [&mut [u64]; 1],
+    page: &Page,
+    rules: &mut LentRules,
+    marks: &mut LentMarks,
+    found: &mut LentFindings,
 ) -> Answer
-    ensures { Detect (record {
-      sides = sides;
-      dpi = dpi;
-      xheight = xheight;
-      settings = p;
-      caps = f;
-      gray = gray.now;
-      ink = ink.now;
-      shear = shear.now;
-      shear_x = shear_x.now;
-      pieces = pieces.now;
-      glyphs = glyphs.now;
-    })
-        (record {
-          rules = record {
-            levelled = list_at 0 levelled.old;
-            rects = list_at 0 rects.old;
-            directions = list_at 0 tags.old;
-            contrasts = list_at 0 values.old;
-            printed = list_at 0 chosen.old;
-            faint = list_at 1 rest.old;
-            piece_members = list_at 0 members.old;
-            piece_ends = list_at 0 ends.old;
-            bounds = list_at 0 bounds.old;
-            rows = list_at 0 rows.old;
-            columns = list_at 0 columns.old;
-            rulings = list_at 0 rulings.old;
-            shares = list_at 1 values.old;
-            free = list_at 0 rest.old;
-            printed_members = list_at 1 members.old;
-            printed_ends = list_at 1 ends.old;
-            numbers = list_at 0 numbers.old;
-            parents = list_at 0 parents.old;
-            listed = list_at 0 listed.old;
-            listed_ends = list_at 0 listed_ends.old;
-            order = list_at 0 order.old;
-            keys = list_at 0 keys.old;
-          };
-          marks = record {
-            boxes = list_at 1 rects.old;
-            marks = list_at 1 tags.old;
-            coverages = list_at 2 values.old;
-            reading = list_at 1 chosen.old;
-            members = list_at 2 members.old;
-            ends = list_at 2 ends.old;
-            numbers = list_at 1 numbers.old;
-            parents = list_at 1 parents.old;
-            order = list_at 1 order.old;
-            keys = list_at 0 box_keys.old;
-          };
-          found = record { rects = list_at 0 page.old; facts = map (λ x. x.now) facts.old; scores = map (λ x. x.now) scores.old };
-        })
-        (record {
-          rules = record {
-            levelled = list_at 0 levelled.new;
-            rects = list_at 0 rects.new;
-            directions = list_at 0 tags.new;
-            contrasts = list_at 0 values.new;
-            printed = list_at 0 chosen.new;
-            faint = list_at 1 rest.new;
-            piece_members = list_at 0 members.new;
-            piece_ends = list_at 0 ends.new;
-            bounds = list_at 0 bounds.new;
-            rows = list_at 0 rows.new;
-            columns = list_at 0 columns.new;
-            rulings = list_at 0 rulings.new;
-            shares = list_at 1 values.new;
-            free = list_at 0 rest.new;
-            printed_members = list_at 1 members.new;
-            printed_ends = list_at 1 ends.new;
-            numbers = list_at 0 numbers.new;
-            parents = list_at 0 parents.new;
-            listed = list_at 0 listed.new;
-            listed_ends = list_at 0 listed_ends.new;
-            order = list_at 0 order.new;
-            keys = list_at 0 keys.new;
-          };
-          marks = record {
-            boxes = list_at 1 rects.new;
-            marks = list_at 1 tags.new;
-            coverages = list_at 2 values.new;
-            reading = list_at 1 chosen.new;
-            members = list_at 2 members.new;
-            ends = list_at 2 ends.new;
-            numbers = list_at 1 numbers.new;
-            parents = list_at 1 parents.new;
-            order = list_at 1 order.new;
-            keys = list_at 0 box_keys.new;
-          };
-          found = record { rects = list_at 0 page.new; facts = map (λ x. x.now) facts.new; scores = map (λ x. x.now) scores.new };
-        }) result }
+    ensures detected { Detect page.now (lent rules.old marks.old found.old) (lent rules.new marks.new found.new) result }
+    ensures same { SameRules rules.old rules.new × SameMarks marks.old marks.new × SameFindings found.old found.new }
 {
-    let number = page::guard::missed_by_given(
-        sides, dpi, xheight, p, f, gray, ink, shear, shear_x, pieces, glyphs,
-    );
-    if number != 0 {
-        return page::answer::refused(number);
+    if let Err(question) = page::guard::missed(page, rules, marks, found) {
+        return page::answer::refused(question);
     }
-    let n = pieces.len() / 4;
-    let m = glyphs.len() / 4;
-    let raster = layout::sides::raster_fits(sides.w, sides.h, levelled[0].len());
-    let ruled = page::room::rulings_fit(
-        n,
-        rects[0].len(),
-        tags[0].len(),
-        values[0].len(),
-        chosen[0].len(),
-        rest[1].len(),
-        members[0].len(),
-        ends[0].len(),
-    );
-    let tabled = page::room::tables_fit(
-        n,
-        bounds[0].len(),
-        rows[0].len(),
-        columns[0].len(),
-        rulings[0].len(),
-        values[1].len(),
-        rest[0].len(),
-        members[1].len(),
-        ends[1].len(),
-        numbers[0].len(),
-    );
-    let boxed = page::room::boxes_fit(
-        m,
-        rects[1].len(),
-        tags[1].len(),
-        values[2].len(),
-        chosen[1].len(),
-        members[2].len(),
-        ends[2].len(),
-        numbers[1].len(),
-    );
-    let found = page::room::facts_fit(
-        n + m,
-        page[0].len(),
-        facts[0].len(),
-        facts[1].len(),
-        facts[2].len(),
-        facts[3].len(),
-    ) & page::room::scores_fit(
-        n + m,
-        scores[0].len(),
-        scores[1].len(),
-        scores[2].len(),
-        scores[3].len(),
-        scores[4].len(),
-        scores[5].len(),
-        scores[6].len(),
-        scores[7].len(),
-    );
-    let work = page::room::work_fits(
-        n,
-        m,
-        parents[0].len(),
-        listed[0].len(),
-        listed_ends[0].len(),
-        order[0].len(),
-        keys[0].len(),
-        parents[1].len(),
-        order[1].len(),
-        box_keys[0].len(),
-    );
-    if !(raster & ruled & tabled & boxed & found & work) {
-        return page::answer::refused(14);
-    }
-    let counts = read_page::read(
-        sides,
-        dpi,
-        xheight,
-        p,
-        f,
-        gray,
-        ink,
-        shear,
-        shear_x,
-        pieces,
-        glyphs,
-        levelled,
-        rects,
-        tags,
-        values,
-        chosen,
-        rest,
-        members,
-        ends,
-        numbers,
-        bounds,
-        rows,
-        columns,
-        rulings,
-        parents,
-        order,
-        listed,
-        listed_ends,
-        keys,
-        box_keys,
-    );
-    let findings = page_findings::find(
-        sides,
-        dpi,
-        p,
-        f,
-        shear,
-        shear_x,
-        counts,
-        rects,
-        tags,
-        values,
-        chosen,
-        rest,
-        members,
-        ends,
-        numbers,
-        bounds,
-        rows,
-        columns,
-        rulings,
-        page,
-        facts,
-        scores,
-        parents,
-        order,
-        listed,
-        listed_ends,
-        keys,
-        box_keys,
-    );
+    let ruled = read_page::rules::read(page, rules);
+    let marked = read_page::marks::read(page, marks);
+    let counts = Counts {
+        rulings: ruled.rulings,
+        printed: ruled.printed,
+        faint: ruled.faint,
+        tables: ruled.tables,
+        boxes: marked.boxes,
+        grids: marked.grids,
+        printed_sets: ruled.printed_sets,
+        free: ruled.free,
+        box_sets: marked.box_sets,
+    };
+    let findings = page_findings::find(page, counts, rules, marks, found);
     page::answer::answered(counts, findings.count, findings.finite)
 }

@@ -1,5 +1,4 @@
 -- Why the lists of findings are right: laws that belong to no one function.
-pub mod Bundle
 pub mod Placed
 pub mod Storing
 pub mod Writing

@@ -3,29 +3,14 @@ use mathlib.Core.Path.{◌≡◌, refl, sym, ap, subst, ◌∙◌}
 use mathlib.Core.List.{List, [], ◌∷◌, ◌++◌, map}
 use Prim.Native.Nat.{ℕ, ◌*◌, ◌^◌, ◌≤◌, ◌<◌}
 use native.Mathlib.Omega.{arith}
-use lib.ListN.{length, get_or, set, length-map}
-use lib.Seq.{sets}
+use lib.ListN.{length, get_or, length-map}
 use Rattle.lists.specs.Lists.{In, concat, written}
 use Rattle.lists.proofs.Keep.{map_append, map_same, map_map, get_d_of, in_at}
 use Rattle.math.specs.Constants.{zero}
 use Rattle.evidence.specs.declared.finding.Row.{Row}
 use Rattle.finding_lists.specs.Columns.{Columns, rect_of, fact, score, AllWritten}
-use Rattle.finding_lists.specs.Steps.{placed, single, EachSet, Stored, Roomy}
+use Rattle.finding_lists.specs.Steps.{placed, single, Stored, Roomy}
 use Rattle.finding_lists.proofs.Placed.{placed_append, placed_long, Inverse, placed_in_order}
-
--- a row stored in every list
-pub row_stored : {row row' : Row} {i : ℕ} {l l' : Columns} → row ≡ row' → l'.rects ≡ sets l.rects (4 * i) (rect_of row)
-    → EachSet 4 i (λ k. fact k row) l.facts l'.facts → EachSet 8 i (λ k. score k row) l.scores l'.scores → Stored (row' ∷ []) (i ∷ []) l l'
-row_stored {row} {i} {l} {l'} e r f s =
-    subst (λ (w : Row). Stored (w ∷ []) (i ∷ []) l l') e
-    (record {
-      rects = r;
-      facts = λ k h. f.put k h ∙ ap (λ (j : ℕ). set (get_or l.facts k []) j (fact k row)) once;
-      scores = λ k h. s.put k h ∙ ap (λ (j : ℕ). set (get_or l.scores k []) j (score k row)) once;
-    })
-  where
-    once : i ≡ 1 * i
-    once = omega arith
 
 -- some rows, and then others
 pub stored_then : (rows rows' : List Row) (ps ps' : List ℕ) {l l' l'' : Columns} → length rows ≡ length ps → Stored rows ps l l' → Stored rows' ps' l' l''

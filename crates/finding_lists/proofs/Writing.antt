@@ -47,9 +47,6 @@ module _ (f : ℕ → Finding) {ranks : List ℕ} {at n : ℕ} {l₀ : Columns} 
       still_roomy (rows k) (take k (drop at ranks)) (R.room k h) W.wrote.stored,
     )
 
-    pub writing_long : length l.rects ≡ length l₀.rects
-    writing_long = ap length W.wrote.stored.rects ∙ placed_long 4 (map rect_of (rows k)) (take k (drop at ranks)) l₀.rects
-
     pub writing_more : {found : Finding} {l' : Columns} {one : Bool} → k < n → found ≡ f k → WroteOne found (get_or ranks (at + k) 0) l l' one
         → Writing f ranks at n l₀ (k + 1) l' (all && one)
     writing_more {found} {l'} h e S =

@@ -3,12 +3,30 @@ use Rattle.std.specs.Prelude.{◌≡◌, List, [], ◌∷◌, map, ℕ, ◌<◌,
 use Rattle.lists.specs.Lists.{concat, written}
 use Rattle.math.specs.Constants.{zero}
 use Rattle.evidence.specs.declared.finding.Row.{Row}
+use Rattle.finding_lists.specs.declared.lent.LentFindings.{LentFindings}
 
 -- The content of the lists.
 pub record Columns : Type 0 where
   pub rects : List ℕ
   pub facts : List (List ℕ)
   pub scores : List (List Float)
+
+-- What the lists hold that are lent.
+abbrev pub columns_of : LentFindings → Columns
+columns_of l =
+    record {
+      rects = l.rects.now;
+      facts = l.kinds.now ∷ l.a.now ∷ l.b.now ∷ l.c.now ∷ [];
+      scores = l.log_odds.now
+          ∷ l.first_values.now
+          ∷ l.first_thresholds.now
+          ∷ l.first_llrs.now
+          ∷ l.second_values.now
+          ∷ l.second_thresholds.now
+          ∷ l.second_llrs.now
+          ∷ l.lengths.now
+          ∷ [];
+    }
 
 -- What a row has in each list.
 abbrev pub rect_of : Row → List ℕ

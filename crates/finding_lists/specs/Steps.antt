@@ -1,10 +1,11 @@
 -- Rows stored at places of the lists, one after the other; none of it is needed to read what the lists hold in the end.
-use Rattle.std.specs.Prelude.{◌≡◌, Bool, List, [], ◌∷◌, map, ℕ, ◌+◌, ◌*◌, ◌≤◌, ◌<◌, ◌^◌, length, get_or, set, take, drop}
+use Rattle.std.specs.Prelude.{◌≡◌, Bool, List, [], ◌∷◌, map, ℕ, ◌+◌, ◌*◌, ◌≤◌, ◌<◌, ◌^◌, length, get_or, take, drop}
 use Rattle.std.proofs.lemmas.List.Edits.{sets}
 use Rattle.lists.specs.Lists.{below, every_below}
 use Rattle.evidence.specs.declared.finding.Row.{Row}
 use Rattle.evidence.specs.declared.finding.Finding.{Finding}
 use Rattle.evidence.specs.Finding.{row_of, finite_finding}
+use Rattle.finding_lists.specs.declared.lent.LentFindings.{LentFindings}
 use Rattle.finding_lists.specs.Columns.{Columns, rect_of, fact, score}
 
 -- Blocks of w entries each, stored at places of a list one after the other.
@@ -23,13 +24,25 @@ pub record Stored (rows : List Row) (ps : List ℕ) (l l' : Columns) : Type 0 wh
   pub facts : (k : ℕ) → k < 4 → get_or l'.facts k [] ≡ placed 1 (map (λ r. single (fact k r)) rows) ps (get_or l.facts k [])
   pub scores : (k : ℕ) → k < 8 → get_or l'.scores k [] ≡ placed 1 (map (λ r. single (score k r)) rows) ps (get_or l.scores k [])
 
--- Each list of a bundle of m has room for n entries.
+-- Each field is the list that it was.
+pub record SameFindings (l l' : LentFindings) : Type 0 where
+  pub rects : l'.rects.ghost_name ≡ l.rects.ghost_name
+  pub kinds : l'.kinds.ghost_name ≡ l.kinds.ghost_name
+  pub a : l'.a.ghost_name ≡ l.a.ghost_name
+  pub b : l'.b.ghost_name ≡ l.b.ghost_name
+  pub c : l'.c.ghost_name ≡ l.c.ghost_name
+  pub log_odds : l'.log_odds.ghost_name ≡ l.log_odds.ghost_name
+  pub first_values : l'.first_values.ghost_name ≡ l.first_values.ghost_name
+  pub first_thresholds : l'.first_thresholds.ghost_name ≡ l.first_thresholds.ghost_name
+  pub first_llrs : l'.first_llrs.ghost_name ≡ l.first_llrs.ghost_name
+  pub second_values : l'.second_values.ghost_name ≡ l.second_values.ghost_name
+  pub second_thresholds : l'.second_thresholds.ghost_name ≡ l.second_thresholds.ghost_name
+  pub second_llrs : l'.second_llrs.ghost_name ≡ l.second_llrs.ghost_name
+  pub lengths : l'.lengths.ghost_name ≡ l.lengths.ghost_name
+
+-- Each of m lists has room for n entries.
 pub record EachLong {A : Type 0} (m n : ℕ) (b : List (List A)) : Type 0 where
   pub long : (k : ℕ) → k < m → n ≤ length (get_or b k [])
-
--- Value k stands at place i of list k of a bundle of m, and all else there is as it was.
-pub record EachSet {A : Type 0} (m i : ℕ) (value : ℕ → A) (b b' : List (List A)) : Type 0 where
-  pub put : (k : ℕ) → k < m → get_or b' k [] ≡ set (get_or b k []) i (value k)
 
 -- The lists have room for n findings.
 pub record Roomy (n : ℕ) (l : Columns) : Type 0 where

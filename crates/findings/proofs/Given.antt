@@ -25,11 +25,3 @@ module _ {w h : ℕ} (rects places : List ℕ) (G : SetGiven w h rects places) w
 
 pub rects_given : {w h : ℕ} {rects marks : List ℕ} {coverages : List Float} {places : List ℕ} → 0 < length places → AllGiven w h rects marks coverages places → SetGiven w h rects places
 rects_given some A = record { some = some; rect = A.given.rect; inside = A.given.inside }
-
--- what the writing of grids asks is more than what their keys ask
-pub grid_rects_given : {w h : ℕ} {rects marks : List ℕ} {coverages : List Float} {set : ℕ → List ℕ} {numbers : List ℕ} → GridsGiven w h rects marks coverages set numbers → GridRectsGiven w h rects set numbers
-grid_rects_given G = record { each = λ k l. rects_given (G.some k l) (G.boxes k l) }
-
--- places of which there are enough
-pub enough_given : {w h m : ℕ} {rects places : List ℕ} → 1 ≤ m → m ≤ length places → RectsGiven w h rects places → SetGiven w h rects places
-enough_given a b G = record { some = omega arith; rect = G.rect; inside = G.inside }

@@ -89,7 +89,3 @@ number_is s dpi t r places fs b e =
     let g = sym (length-map (grid_findings s b) key_of) ∙ ap length (grid_keys_are s t r b dpi) in
     let h = length-append (first_findings s dpi t r places fs) (grid_findings s b) in
     omega arith
-
--- those that are kept are no more than all
-pub kept_few : (q : ℕ → Bool) (xs : List ℕ) {n m : ℕ} → n ≡ length (keep q xs) → length xs ≤ m → n ≤ m
-kept_few q xs e h = let l = keep_size_le q xs in omega arith

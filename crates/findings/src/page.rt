@@ -25,7 +25,8 @@ impl Scan<'_> {
         ensures place { result ≡ on_page self.now r }
         ensures small { (result.x0 < 8192) × (result.y0 < 8192) }
     {
-        layout::page::rect_to_page(self.sides, self.shear, self.shear_x, r)
+        let shears = &self.shears;
+        shears.rect_to_page(r)
     }
 
     // Where the smallest rectangle around those at some places lies on the page.

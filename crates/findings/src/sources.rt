@@ -2,16 +2,14 @@
 ghost use Rattle.findings.specs.Made as Made;
 ghost use Rattle.findings.specs.Steps.{Mapping};
 
-use layout::sides::Sides;
+use layout::tables::Shears;
 use params::settings::{FusionParams, RulingsParams};
 use std::marker::Model;
 
 // What findings are scored by: the way back to the page, which is known, the settings and the caps.
 #[derive(Drop)]
 pub struct Scan<'a> {
-    pub sides: Sides,
-    pub shear: &'a [i32],
-    pub shear_x: &'a [i32],
+    pub shears: Shears<'a>,
     pub settings: RulingsParams,
     pub caps: FusionParams,
 }
@@ -20,14 +18,14 @@ impl<'a> Model for Scan<'a> {
     ghost Value = { Made.Scan };
 
     ghost view = { λ s. record {
-      sides = s.sides;
-      shear = s.shear.now;
-      shear_x = s.shear_x.now;
+      sides = s.shears.sides;
+      shear = s.shears.shear.now;
+      shear_x = s.shears.shear_x.now;
       settings = s.settings;
       caps = s.caps;
     } };
 
-    ghost invariant = { λ s. Mapping s.sides s.shear.now s.shear_x.now };
+    ghost invariant = { λ s. Mapping s.shears.sides s.shears.shear.now s.shears.shear_x.now };
 }
 
 // The rulings.

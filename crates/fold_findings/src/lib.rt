@@ -5,11 +5,13 @@ ghost use Rattle.std.specs.Prelude.{◌≡◌, map, ◌+◌, ◌*◌, ◌<◌, �
 ghost use Rattle.std.proofs.lemmas.List.Edits.{sets};
 ghost use Rattle.rects.specs.Rects.{rect_at};
 ghost use Rattle.rects.specs.Steps.{Inside};
-ghost use Rattle.finding_lists.specs.Steps.{Wrote, RanksGiven};
+ghost use Rattle.finding_lists.specs.Columns.{columns_of};
+ghost use Rattle.finding_lists.specs.Steps.{Wrote, RanksGiven, SameFindings};
 ghost use Rattle.findings.specs.Steps.{fold_key, PlacesGiven, AllGiven, RectsGiven, Front};
 ghost use Rattle.findings.specs.Made.{fold_inches, folds, fold_at};
 
 use evidence::finding::Finding;
+use finding_lists::lent::LentFindings;
 use finding_lists::put;
 use findings::places;
 use findings::sources::{RulingLists, Scan};
@@ -85,23 +87,20 @@ pub fn write(
     folds: &[u32],
     ranks: &[u32],
     at: usize,
-    rects: &mut [u32],
-    facts: &mut [&mut [u32]; 4],
-    scores: &mut [&mut [f64]; 8],
+    lists: &mut LentFindings,
 ) -> bool
     requires given { AllGiven scan.now.sides.w scan.now.sides.h rulings.now.rects rulings.now.directions rulings.now.contrasts folds.now }
-    requires ranks_given { RanksGiven ranks.now at (length folds.now) (record { rects = rects.old; facts = map (λ x. x.now) facts.old; scores = map (λ x. x.now) scores.old }) }
-    ensures { Wrote (λ k. fold_at scan.now dpi rulings.now (get_or folds.now k 0)) (length folds.now) ranks.now at
-        (record { rects = rects.old; facts = map (λ x. x.now) facts.old; scores = map (λ x. x.now) scores.old })
-        (record { rects = rects.new; facts = map (λ x. x.now) facts.new; scores = map (λ x. x.now) scores.new }) result }
+    requires ranks_given { RanksGiven ranks.now at (length folds.now) (columns_of lists.old) }
+    ensures wrote { Wrote (λ k. fold_at scan.now dpi rulings.now (get_or folds.now k 0)) (length folds.now) ranks.now at
+        (columns_of lists.old)
+        (columns_of lists.new) result }
+    ensures same { SameFindings lists.old lists.new }
 {
     put::put_all(
         |k| finding(scan, dpi, rulings, folds[k] as usize),
         folds.len(),
         ranks,
         at,
-        rects,
-        facts,
-        scores,
+        lists,
     )
 }

@@ -3,11 +3,13 @@
 
 ghost use Rattle.std.specs.Prelude.{◌≡◌, map, ◌+◌, ◌≤◌, ◌<◌, leb, length};
 ghost use Rattle.lists.specs.Lists.{one, written};
-ghost use Rattle.finding_lists.specs.Steps.{Wrote, RanksGiven};
+ghost use Rattle.finding_lists.specs.Columns.{columns_of};
+ghost use Rattle.finding_lists.specs.Steps.{Wrote, RanksGiven, SameFindings};
 ghost use Rattle.findings.specs.Steps.{free_keys, NumbersGiven, RectsGiven, AllGiven, KeysStored};
 ghost use Rattle.findings.specs.Made.{free_places, free_of, free_count_of};
 
 use evidence::finding::Finding;
+use finding_lists::lent::LentFindings;
 use finding_lists::put;
 use findings::places;
 use findings::sources::{RulingLists, Scan};
@@ -75,25 +77,16 @@ pub fn write(
     places: &[u32],
     ranks: &[u32],
     at: usize,
-    rects: &mut [u32],
-    facts: &mut [&mut [u32]; 4],
-    scores: &mut [&mut [f64]; 8],
+    lists: &mut LentFindings,
 ) -> bool
     requires given { (1 ≤ scan.now.settings.min_free_rules) × AllGiven scan.now.sides.w scan.now.sides.h rulings.now.rects
         rulings.now.directions rulings.now.contrasts places.now }
-    requires ranks_given { RanksGiven ranks.now at (free_count_of scan.now.settings places.now) (record { rects = rects.old; facts = map (λ x. x.now) facts.old; scores = map (λ x. x.now) scores.old }) }
-    ensures { Wrote (λ k. free_of scan.now rulings.now places.now) (free_count_of scan.now.settings places.now) ranks.now at
-        (record { rects = rects.old; facts = map (λ x. x.now) facts.old; scores = map (λ x. x.now) scores.old })
-        (record { rects = rects.new; facts = map (λ x. x.now) facts.new; scores = map (λ x. x.now) scores.new }) result }
+    requires ranks_given { RanksGiven ranks.now at (free_count_of scan.now.settings places.now) (columns_of lists.old) }
+    ensures wrote { Wrote (λ k. free_of scan.now rulings.now places.now) (free_count_of scan.now.settings places.now) ranks.now at
+        (columns_of lists.old)
+        (columns_of lists.new) result }
+    ensures same { SameFindings lists.old lists.new }
 {
     let n = made(scan.settings, places.len());
-    put::put_all(
-        |_| finding(scan, rulings, places),
-        n,
-        ranks,
-        at,
-        rects,
-        facts,
-        scores,
-    )
+    put::put_all(|_| finding(scan, rulings, places), n, ranks, at, lists)
 }

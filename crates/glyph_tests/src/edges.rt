@@ -1,5 +1,5 @@
 // Four straight edges. A band of rows or columns absorbs the staircase of a rotated line; unbroken is what a round letter lacks.
-ghost use Rattle.std.specs.Prelude.{◌≡◌, ◌-◌, ◌^◌, ◌<◌, ◌≤◌};
+ghost use Rattle.std.specs.Prelude.{◌≡◌, ◌^◌, ◌<◌, ◌≤◌};
 ghost use Prim.Native.Nat.{◌+◌};
 ghost use Rattle.ink.specs.Ink.{inked};
 ghost use Rattle.ink.specs.Steps.{Readable};

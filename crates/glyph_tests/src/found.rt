@@ -8,7 +8,8 @@ use crate::limits::Limits;
 use ink::Mask;
 use rects::Rect;
 
-// A hollow square: its frame, 1 where it is ticked and 0 where it is empty, and the least of its four edge shares.
+// A hollow square: its frame, 1 where it is ticked and 0 where it is empty (a number, since C's lists hold it), and the least of its four edge
+// shares.
 #[derive(Clone, Copy)]
 pub struct CheckBox {
     pub bbox: Rect,

@@ -4,7 +4,8 @@
 ghost use Rattle.std.specs.Prelude.{◌≡◌, map, ◌+◌, ◌<◌, ◌≤◌, length, get_or};
 ghost use Rattle.std.proofs.lemmas.List.Edits.{sets};
 ghost use Rattle.sets.specs.Listing.{members_of};
-ghost use Rattle.finding_lists.specs.Steps.{Wrote, RanksGiven};
+ghost use Rattle.finding_lists.specs.Columns.{columns_of};
+ghost use Rattle.finding_lists.specs.Steps.{Wrote, RanksGiven, SameFindings};
 ghost use Rattle.findings.specs.Steps.{grid_key, AllGiven, GridRectsGiven, GridsGiven};
 ghost use Rattle.findings.specs.Made.{grid_of};
 ghost use Rattle.grid_findings.specs.Boxes.{sets_of};
@@ -12,33 +13,35 @@ ghost use Rattle.grid_findings.specs.Boxes.{sets_of};
 pub mod sources;
 
 use evidence::finding::Finding;
+use finding_lists::lent::LentFindings;
 use finding_lists::put;
 use findings::places;
 use findings::sources::Scan;
 use sources::BoxLists;
 
+// The members of grid k.
+fn set_at<'b>(boxes: &'b BoxLists, k: usize) -> &'b [u32]
+    requires { k < length boxes.now.grids }
+    ensures { result.now ≡ sets_of boxes.now (get_or boxes.now.grids k 0) }
+{
+    listings::members_of(
+        boxes.members,
+        boxes.ends,
+        boxes.count,
+        boxes.grids[k] as usize,
+    )
+}
+
 // The keys of the grids' findings, from place `at` of the list on.
-pub fn keys(
-    scan: &Scan,
-    rects: &[u32],
-    members: &[u32],
-    ends: &[u32],
-    count: usize,
-    numbers: &[u32],
-    at: usize,
-    keys: &mut [u64],
-)
-    requires { GridRectsGiven scan.now.sides.w scan.now.sides.h rects.now (members_of members.now ends.now count) numbers.now
-        × (at + length numbers.now ≤ length keys.old) }
+pub fn keys(scan: &Scan, boxes: &BoxLists, at: usize, keys: &mut [u64])
+    requires { GridRectsGiven scan.now.sides.w scan.now.sides.h boxes.now.rects (sets_of boxes.now) boxes.now.grids
+        × (at + length boxes.now.grids ≤ length keys.old) }
     ensures { keys.new ≡ sets keys.old at
-        (map (λ n. grid_key scan.now.sides scan.now.shear scan.now.shear_x rects.now (members_of members.now ends.now count n)) numbers.now) }
+        (map (λ n. grid_key scan.now.sides scan.now.shear scan.now.shear_x boxes.now.rects (sets_of boxes.now n)) boxes.now.grids) }
 {
     findings::keys::put_all(
-        |k| {
-            let set = listings::members_of(members, ends, count, numbers[k] as usize);
-            scan.key_around(rects, set, 18)
-        },
-        numbers.len(),
+        |k| scan.key_around(boxes.rects, set_at(boxes, k), 18),
+        boxes.grids.len(),
         at,
         keys,
     );
@@ -69,13 +72,7 @@ fn finding_at(scan: &Scan, boxes: &BoxLists, k: usize) -> Finding
         boxes.now.grids × (k < length boxes.now.grids) }
     ensures { result ≡ grid_of scan.now boxes.now.rects boxes.now.marks boxes.now.coverages (sets_of boxes.now (get_or boxes.now.grids k 0)) }
 {
-    let set = listings::members_of(
-        boxes.members,
-        boxes.ends,
-        boxes.count,
-        boxes.grids[k] as usize,
-    );
-    finding(scan, boxes, set)
+    finding(scan, boxes, set_at(boxes, k))
 }
 
 // Stores the grids' findings at their ranks, which stand from place `at` on, and tells whether every evidence number is finite.
@@ -84,25 +81,22 @@ pub fn write(
     boxes: &BoxLists,
     ranks: &[u32],
     at: usize,
-    rects: &mut [u32],
-    facts: &mut [&mut [u32]; 4],
-    scores: &mut [&mut [f64]; 8],
+    lists: &mut LentFindings,
 ) -> bool
     requires given { GridsGiven scan.now.sides.w scan.now.sides.h boxes.now.rects boxes.now.marks boxes.now.coverages (sets_of boxes.now)
         boxes.now.grids }
-    requires ranks_given { RanksGiven ranks.now at (length boxes.now.grids) (record { rects = rects.old; facts = map (λ x. x.now) facts.old; scores = map (λ x. x.now) scores.old }) }
-    ensures { Wrote (λ k. grid_of scan.now boxes.now.rects boxes.now.marks boxes.now.coverages (sets_of boxes.now (get_or boxes.now.grids k 0)))
+    requires ranks_given { RanksGiven ranks.now at (length boxes.now.grids) (columns_of lists.old) }
+    ensures wrote { Wrote (λ k. grid_of scan.now boxes.now.rects boxes.now.marks boxes.now.coverages (sets_of boxes.now (get_or boxes.now.grids k 0)))
         (length boxes.now.grids) ranks.now at
-        (record { rects = rects.old; facts = map (λ x. x.now) facts.old; scores = map (λ x. x.now) scores.old })
-        (record { rects = rects.new; facts = map (λ x. x.now) facts.new; scores = map (λ x. x.now) scores.new }) result }
+        (columns_of lists.old)
+        (columns_of lists.new) result }
+    ensures same { SameFindings lists.old lists.new }
 {
     put::put_all(
         |k| finding_at(scan, boxes, k),
         boxes.grids.len(),
         ranks,
         at,
-        rects,
-        facts,
-        scores,
+        lists,
     )
 }

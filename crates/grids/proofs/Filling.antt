@@ -17,7 +17,7 @@ use Rattle.reading_order.specs.Reading.{reading_order}
 use Rattle.reading_order.specs.Steps.{Indexes, SetsIn}
 use Rattle.reading_order.proofs.ReadingOrder.{reading_long}
 use Rattle.grids.specs.Grids.{readings}
-use Rattle.grids.specs.Call.{Lent}
+use Rattle.grids.specs.Lent.{Lent}
 use Rattle.grids.specs.Steps.{Chose, Filled}
 
 module _ (rects : List ℕ) (limit : ℕ) {m e m' e' : List ℕ} {r : ℕ} (C : Connected rects limit m e m' e' r) (room : count rects ≤ length m)

@@ -1,5 +1,5 @@
 -- What `box_grids` is given and lent, the questions that it puts, and what it promises.
-use Rattle.std.specs.Prelude.{◌≡◌, ℕ, ◌<◌, Bool, true, cond, ◌&&◌, List, [], ◌∷◌, ◌++◌, map, length, get_or, ◌==◌, ◌≢◌, nat_le, slice_index_or}
+use Rattle.std.specs.Prelude.{◌≡◌, ℕ, ◌<◌, Bool, true, cond, List, [], ◌∷◌, ◌++◌, map, length, get_or, ◌==◌, ◌≢◌, slice_index_or}
 use Rattle.std.specs.Prelude.{Float}
 use Rattle.lists.specs.Lists.{concat, written}
 use Rattle.sets.specs.Closed.{Below, Listed, ListedWhere}
@@ -13,6 +13,7 @@ use Rattle.params.specs.Limits.{IsLimit, align_setting, align_limit}
 use Rattle.box_sets.specs.Boxes.{Touch, box_sets}
 use Rattle.reading_order.specs.Reading.{InReadingOrder, reading_order}
 use Rattle.grids.specs.declared.Answer.{Answer}
+use Rattle.grids.specs.Lent.{Lent, room_for}
 use Rattle.grids.specs.Grids.{is_grid, grids, readings}
 
 -- What the call is given: the boxes by their rectangles.
@@ -21,22 +22,9 @@ pub record Given : Type 0 where
   pub settings : RulingsParams
   pub rects : List ℕ
 
--- The lists that it is lent, by name: answers, then work lists.
-pub record Lent : Type 0 where
-  pub members : List ℕ
-  pub ends : List ℕ
-  pub reading : List ℕ
-  pub numbers : List ℕ
-  pub parents : List ℕ
-  pub work : List ℕ
-  pub keys : List ℕ
-
 -- Question 14: each index, member or work list has one entry a box.
 abbrev pub has_room : Given → Lent → Bool
-has_room g l =
-    let n = count g.rects in
-    nat_le n (length l.members) && nat_le n (length l.ends) && nat_le n (length l.reading) && nat_le n (length l.numbers)
-    && nat_le n (length l.parents) && nat_le n (length l.work) && nat_le n (length l.keys)
+has_room g l = room_for (count g.rects) l
 
 -- The questions about what is given, in document 01's order: 2 (x-height), 5, 6, 7 to 11, 13.
 abbrev pub given_questions : Given → List Question

@@ -5,7 +5,7 @@ use Rattle.sets.specs.Listing.{ends_from, ReadAs}
 use Rattle.box_sets.specs.Boxes.{box_sets}
 use Rattle.reading_order.specs.Reading.{reading_order}
 use Rattle.grids.specs.Grids.{grid_numbers, grids, readings}
-use Rattle.grids.specs.Call.{Lent}
+use Rattle.grids.specs.Lent.{Lent}
 
 -- The grids among the first r sets were numbered from the front of a list.
 pub record Chose (least : ℕ) (set : ℕ → List ℕ) (r : ℕ) (nu nu' : List ℕ) (g : ℕ) : Type 0 where

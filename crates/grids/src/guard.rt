@@ -1,55 +1,20 @@
 // The questions that `box_grids` puts.
-ghost use Rattle.std.specs.Prelude.{◌≡◌, ◌&&◌, [], ◌∷◌, ◌++◌, nat_le};
+ghost use Rattle.std.specs.Prelude.{◌≡◌};
 ghost use Rattle.questions.specs.Questions.{first_missed};
-ghost use Rattle.grids.specs.Call.{given_questions};
+ghost use Rattle.questions.specs.Missed.{number_in};
+ghost use Rattle.grids.specs.Lent.{lists_of};
+ghost use Rattle.grids.specs.Call.{questions};
 
+use crate::lent::Lists;
 use params::settings::RulingsParams;
+use questions::{Missed, ask};
 
-// Has every list an entry for each of n boxes? The lists are given by their lengths.
-pub fn room_for_boxes(
-    n: usize,
-    members: usize,
-    ends: usize,
-    reading: usize,
-    numbers: usize,
-    parents: usize,
-    work: usize,
-    keys: usize,
-) -> bool
-    ensures { result ≡ nat_le n members && nat_le n ends && nat_le n reading && nat_le n numbers && nat_le n parents && nat_le n work && nat_le n keys }
+pub fn missed(xheight: f64, p: RulingsParams, rects: &[u32], lists: &Lists) -> Result<(), Missed>
+    ensures { number_in result ≡ first_missed (questions (record { xheight = xheight; settings = p; rects = rects.now }) (lists_of lists.now)) }
 {
-    (n <= members)
-        & (n <= ends)
-        & (n <= reading)
-        & (n <= numbers)
-        & (n <= parents)
-        & (n <= work)
-        & (n <= keys)
-}
-
-// A number and no error type: C gets it as it is.
-// The number of the first missed question, and 0 where none is.
-pub fn missed(xheight: f64, p: RulingsParams, rects: &[u32], room: bool) -> u32
-    ensures { result ≡ first_missed (given_questions (record { xheight = xheight; settings = p; rects = rects.now }) ++ (14, room) ∷ []) }
-{
-    let scan = params::scan::missed_by_xheight(xheight);
-    let given = rects::count_fits(rects, 16384);
-    let inside = rects::all_inside(rects, 8192, 8192);
-    let settings = params::validate::missed_by_settings(p);
-    if scan != 0 {
-        return scan;
-    }
-    if !given {
-        return 5;
-    }
-    if !inside {
-        return 6;
-    }
-    if settings != 0 {
-        return settings;
-    }
-    if !room {
-        return 14;
-    }
-    0
+    params::scan::missed_by_xheight(xheight)?;
+    ask(rects::count_fits(rects, 16384), Missed::Counts)?;
+    ask(rects::all_inside(rects, 8192, 8192), Missed::Rectangles)?;
+    params::validate::missed_by_settings(p)?;
+    ask(lists.room_for(rects.len() / 4), Missed::Room)
 }

@@ -4,9 +4,12 @@ ghost use Rattle.rects.specs.Rects.{count};
 ghost use Rattle.params.specs.Limits.{align_limit};
 ghost use Rattle.params.specs.Steps.{SettingsPassed};
 ghost use Rattle.box_widths.specs.Steps.{PassedBoxes};
+ghost use Rattle.grids.specs.Lent.{lists_of, Same};
 ghost use Rattle.grids.specs.Steps.{Roomy, Filled};
 
+use crate::lent::Lists;
 use crate::minimum;
+use listings::listed::Sets;
 use params::settings::RulingsParams;
 
 // round(2 * grid_align_xh * xheight), for settings and an x-height that passed their questions.
@@ -26,51 +29,35 @@ pub struct Counts {
 
 // Lists the closed sets of the boxes, the reading order of each, and which of them are grids. Once the sets are listed, the parents hold
 // the order of one set after another.
-pub fn find(
-    rects: &[u32],
-    limit: u64,
-    least: u32,
-    members: &mut [u32],
-    ends: &mut [u32],
-    reading: &mut [u32],
-    numbers: &mut [u32],
-    parents: &mut [u32],
-    work: &mut [u32],
-    keys: &mut [u64],
-) -> Counts
-    requires { (limit < 2 ^ 40) × PassedBoxes rects.now × Roomy (count rects.now)
-        (record {
-          members = members.old;
-          ends = ends.old;
-          reading = reading.old;
-          numbers = numbers.old;
-          parents = parents.old;
-          work = work.old;
-          keys = keys.old;
-        }) }
-    ensures { Filled rects.now limit least
-        (record {
-          members = members.old;
-          ends = ends.old;
-          reading = reading.old;
-          numbers = numbers.old;
-          parents = parents.old;
-          work = work.old;
-          keys = keys.old;
-        })
-        (record {
-          members = members.new;
-          ends = ends.new;
-          reading = reading.new;
-          numbers = numbers.new;
-          parents = parents.new;
-          work = work.new;
-          keys = keys.new;
-        })
-        result.sets result.grids }
+pub fn find(rects: &[u32], limit: u64, least: u32, lists: &mut Lists) -> Counts
+    requires { (limit < 2 ^ 40) × PassedBoxes rects.now × Roomy (count rects.now) (lists_of lists.old) }
+    ensures filled { Filled rects.now limit least (lists_of lists.old) (lists_of lists.new) result.sets result.grids }
+    ensures same { Same lists.old lists.new }
 {
-    let sets = box_sets::connect(rects, limit, parents, members, ends, work, keys);
-    reading_order::reading::read_sets(rects, members, ends, sets, reading, parents, work, keys);
-    let grids = minimum::choose(members, ends, sets, least, numbers);
-    Counts { sets, grids }
+    let members = &mut *lists.members;
+    let ends = &mut *lists.ends;
+    let count = box_sets::connect(
+        rects,
+        limit,
+        lists.parents,
+        members,
+        ends,
+        lists.work,
+        lists.keys,
+    );
+    let sets = Sets {
+        members,
+        ends,
+        count,
+    };
+    reading_order::reading::read_sets(
+        rects,
+        &sets,
+        lists.reading,
+        lists.parents,
+        lists.work,
+        lists.keys,
+    );
+    let grids = minimum::choose(&sets, least, lists.numbers);
+    Counts { sets: count, grids }
 }

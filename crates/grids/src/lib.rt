@@ -3,13 +3,16 @@
 
 mod guard;
 pub mod inner;
+pub mod lent;
 mod minimum;
 
+ghost use Rattle.grids.specs.Lent.{lists_of, Same};
 ghost use Rattle.grids.specs.Call.{Grids};
 
+use lent::Lists;
 use params::settings::RulingsParams;
 
-// The number of the first missed question, 0 where none is, and how many sets and grids there are.
+// C's struct: the number of the first missed question, 0 where none is, and how many sets and grids there are.
 #[repr(C)]
 #[derive(Clone, Copy)]
 pub struct Answer {
@@ -51,29 +54,7 @@ pub fn box_grids(
           keys = keys.new;
         }) result }
 {
-    let room = guard::room_for_boxes(
-        rects.len() / 4,
-        members.len(),
-        ends.len(),
-        reading.len(),
-        numbers.len(),
-        parents.len(),
-        work.len(),
-        keys.len(),
-    );
-    let number = guard::missed(xheight, p, rects, room);
-    if number != 0 {
-        return Answer {
-            number,
-            sets: 0,
-            grids: 0,
-        };
-    }
-    let limit = inner::limit(p, xheight);
-    let found = inner::find(
-        rects,
-        limit,
-        p.grid_min_boxes,
+    let mut lists = Lists {
         members,
         ends,
         reading,
@@ -81,7 +62,24 @@ pub fn box_grids(
         parents,
         work,
         keys,
-    );
+    };
+    find_grids(xheight, p, rects, &mut lists)
+}
+
+// The same, over the struct of the lists.
+fn find_grids(xheight: f64, p: RulingsParams, rects: &[u32], lists: &mut Lists) -> Answer
+    ensures answers { Grids (record { xheight = xheight; settings = p; rects = rects.now }) (lists_of lists.old) (lists_of lists.new) result }
+    ensures same { Same lists.old lists.new }
+{
+    if let Err(missed) = guard::missed(xheight, p, rects, lists) {
+        return Answer {
+            number: missed.number(),
+            sets: 0,
+            grids: 0,
+        };
+    }
+    let limit = inner::limit(p, xheight);
+    let found = inner::find(rects, limit, p.grid_min_boxes, lists);
     Answer {
         number: 0,
         sets: found.sets,

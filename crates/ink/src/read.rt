@@ -1,5 +1,5 @@
 // Reading a mask, and counting ink in rows, columns and rectangles.
-ghost use Rattle.std.specs.Prelude.{◌≡◌, not, cond, ◌+◌, ◌*◌, ◌≤◌, ◌<◌, eqb, ltb, length, get_or};
+ghost use Rattle.std.specs.Prelude.{◌≡◌, not, ◌+◌, ◌*◌, ◌≤◌, ◌<◌, eqb, ltb, length, get_or};
 ghost use Rattle.rects.specs.Rects.{width_of, height_of};
 ghost use Rattle.ink.specs.Ink.{inked, many, row_ink, column_ink, ink_in};
 ghost use Rattle.ink.specs.Places.{over};
@@ -9,7 +9,7 @@ use crate::Mask;
 use rects::Rect;
 
 // How many bytes of a part of a row are ink.
-fn inked(row: &[u8]) -> u32
+fn count_ink(row: &[u8]) -> u32
     requires { length row.now ≤ 8192 }
     ensures { result ≡ many (λ i. not (eqb (get_or row.now i 0) 0)) (length row.now) }
 {
@@ -36,7 +36,7 @@ impl Mask<'_> {
     {
         let start = (r.y0 + j) as usize * self.w + r.x0 as usize;
         let end = start + r.width() as usize;
-        inked(&self.bytes[start..end])
+        count_ink(&self.bytes[start..end])
     }
 
     // The ink in column i of a rectangle.

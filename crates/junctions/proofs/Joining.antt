@@ -5,7 +5,7 @@ use mathlib.Core.List.{List, ◌∷◌}
 use Prim.Native.Nat.{ℕ, ◌+◌, ◌≤◌, ◌<◌, zero-le}
 use native.Mathlib.Nat.{le_refl}
 use native.Mathlib.Numerals.{add-one}
-use lib.ListN.{length, get_or, drop, drop_of_length-le}
+use lib.ListN.{length, get_or, drop}
 use lib.Seq.{drop-cons}
 use Rattle.lists.specs.Lists.{one, keep}
 use Rattle.lists.proofs.Sizes.{keep_size}
@@ -16,9 +16,6 @@ module _ (q : ℕ → Bool) (s : List ℕ) where
 
   pub kept_step : (k : ℕ) → k < length s → length (keep q (drop k s)) ≡ one (q (get_or s k 0)) + length (keep q (drop (k + 1) s))
   kept_step k h = ap (λ (t : List ℕ). length (keep q t)) (rest k h) ∙ keep_size q (get_or s k 0) (drop (k + 1) s)
-
-  pub kept_end : (k : ℕ) → length s ≤ k → length (keep q (drop k s)) ≡ 0
-  kept_end k h = ap (λ (t : List ℕ). length (keep q t)) (drop_of_length-le s h)
 
 pub one_le : (b : Bool) → one b ≤ 1
 one_le true = le_refl 1

@@ -4,7 +4,7 @@ use mathlib.Core.Path.{◌≡◌, refl, sym, ap, ◌∙◌}
 use mathlib.Core.Bool.{Bool, true, false, cond, not, ◌&&◌, false≢true}
 use mathlib.Core.List.{List}
 use Prim.Native.Nat.{ℕ, ◌+◌, ◌*◌, ◌≤◌, ◌<◌}
-use native.Mathlib.Decide.{dec_lt, ℕ_discrete}
+use native.Mathlib.Decide.{dec_lt}
 use native.Mathlib.Omega.{arith}
 use lib.Dec.{leb}
 use lib.ListN.{length, get_or}
@@ -60,10 +60,6 @@ module _ (join : ℕ) (s : ℕ → Segment) (set : List ℕ) (a : Segment) (e : 
               λ l h. fails _ (λ t. let w = (joins_between join e a (s (get_or set (get_or order l 0) 0)) t).0 in
               let far = F.before l h in absurd (omega (arith, key l (omega (arith, F.up_to)))));
         }
-
-    pub search_turn : {k : ℕ} → Searched order k → k < length set → by (get_or set (get_or order k 0) 0) ≡ false → Searched order (k + 1)
-    search_turn {k} S h f =
-        record { none = λ l m. elim (ℕ_discrete l k) [ yes q ↦ rw q f | no q ↦ S.none l (omega arith) ] }
 
     -- none of all places joins the end
     nobody : ((l : ℕ) → l < length set → by (get_or set (get_or order l 0) 0) ≡ false) → false ≡ any by set

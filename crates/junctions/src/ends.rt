@@ -124,5 +124,6 @@ pub fn share(
     write_keys(rulings, set, keys);
     sorted::arrange(keys, set.len(), order, work);
     let joined = joined_ends(rulings, set, keys, order, join);
+    // By `as`, since there is no `From` from usize to f64.
     joined as f64 / (2 * set.len()) as f64
 }

@@ -2,6 +2,7 @@
 ghost use Rattle.level_gray.specs.Call.{LevelGray};
 
 use layout::sides::Sides;
+use layout::tables::Shears;
 
 #[unsafe(no_mangle)]
 pub extern "C" fn lanegravel_level_gray(
@@ -18,5 +19,10 @@ pub extern "C" fn lanegravel_level_gray(
         out.old out.new result }
 {
     let sides = Sides { pw, ph, w, h };
-    level_gray::level_gray(sides, gray, shear, shear_x, out)
+    let shears = Shears {
+        sides,
+        shear,
+        shear_x,
+    };
+    questions::number(level_gray::level_gray(&shears, gray, out))
 }

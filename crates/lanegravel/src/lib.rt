@@ -6,6 +6,7 @@
 mod box_grids_call;
 mod boxes_call;
 mod detect_call;
+mod detect_lists;
 mod finding_at_call;
 mod floats;
 mod level_gray_call;

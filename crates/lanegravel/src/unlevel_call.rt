@@ -2,6 +2,7 @@
 ghost use Rattle.unlevel.specs.Call.{Unlevel};
 
 use layout::sides::Sides;
+use layout::tables::Shears;
 
 #[unsafe(no_mangle)]
 pub extern "C" fn lanegravel_unlevel(
@@ -18,5 +19,10 @@ pub extern "C" fn lanegravel_unlevel(
         out.old out.new result }
 {
     let sides = Sides { pw, ph, w, h };
-    unlevel::unlevel(sides, level, shear, shear_x, out)
+    let shears = Shears {
+        sides,
+        shear,
+        shear_x,
+    };
+    questions::number(unlevel::unlevel(&shears, level, out))
 }

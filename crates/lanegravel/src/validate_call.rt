@@ -7,5 +7,5 @@ ghost use Rattle.params.specs.Settings.{settings_questions};
 pub extern "C" fn lanegravel_validate(p: params::settings::RulingsParams) -> u32
     ensures { result ≡ first_missed (settings_questions p) }
 {
-    params::validate::missed_by_settings(p)
+    questions::number(params::validate::missed_by_settings(p))
 }

@@ -7,5 +7,5 @@ ghost use Rattle.params.specs.Settings.{fusion_questions};
 pub extern "C" fn lanegravel_validate_fusion(f: params::settings::FusionParams) -> u32
     ensures { result ≡ first_missed (fusion_questions f) }
 {
-    params::validate::missed_by_fusion(f)
+    questions::number(params::validate::missed_by_fusion(f))
 }

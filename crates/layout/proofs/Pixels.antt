@@ -14,12 +14,13 @@ use Rattle.rects.specs.Rects.{inside}
 use Rattle.layout.specs.declared.sides.Sides.{Sides}
 use Rattle.layout.specs.declared.page.Levelled.{Levelled}
 use Rattle.layout.specs.declared.page.PagePlace.{PagePlace}
-use Rattle.layout.specs.declared.calls.Refused.{Refused}
+use Rattle.questions.specs.declared.Missed.{Missed}
+use Rattle.questions.specs.Missed.{number_in}
 use Rattle.std.specs.Prelude.{Result}
 use Rattle.layout.specs.Sides.{sides_fit}
 use Rattle.layout.specs.Tables.{shears_long, shears_fit, tables_pass}
 use Rattle.layout.specs.ToPage.{to_page}
-use Rattle.layout.specs.Call.{map_questions, one_pixel, number_of, mapped_values, PixelBack, ToPage}
+use Rattle.layout.specs.Call.{map_questions, one_pixel, mapped_values, PixelBack, ToPage}
 use Rattle.layout.specs.Steps.{Sheared}
 use Rattle.layout.proofs.Every.{and_parts}
 use Rattle.layout.proofs.Answers.{sheared_yes}
@@ -52,5 +53,5 @@ module _ (sides : Sides) (shear shear_x : List ℤ) where
       let place = ap₂ (λ (x y : ℕ). to_page sides shear shear_x (record { 0 = x; 1 = y })) across down ∙ sym (to_page_back sides shear shear_x X Y l) in
       (none, v ∙ ap (λ (k : ℕ). cond (eqb k 0) (listed (to_page sides shear shear_x p)) refused) none ∙ ap listed place)
 
-  pub to_page_is : (p : Levelled) (answer : Result PagePlace Refused) → number_of answer ≡ first_missed (map_questions sides shear shear_x (one_pixel p)) → let q = to_page sides shear shear_x p in mapped_values answer ≡ cond (eqb (number_of answer) 0) (q.0 ∷ q.1 ∷ []) [] → ToPage sides shear shear_x p answer
-  to_page_is p answer n v = record { number = n; values = v; pixel = pixel_back p (number_of answer) (mapped_values answer) [] n v }
+  pub to_page_is : (p : Levelled) (answer : Result PagePlace Missed) → number_in answer ≡ first_missed (map_questions sides shear shear_x (one_pixel p)) → let q = to_page sides shear shear_x p in mapped_values answer ≡ cond (eqb (number_in answer) 0) (q.0 ∷ q.1 ∷ []) [] → ToPage sides shear shear_x p answer
+  to_page_is p answer n v = record { number = n; values = v; pixel = pixel_back p (number_in answer) (mapped_values answer) [] n v }

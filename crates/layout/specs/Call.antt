@@ -1,12 +1,13 @@
 -- What `to_page` and `rect_to_page` answer: the questions that they put, in document 01's order, and the answer where none is missed.
-use Rattle.std.specs.Prelude.{ℕ, ◌<◌, ◌≡◌, true, cond, List, [], ◌∷◌, eqb, ℤ, pos, Result, Ok, Err, MatchResult}
+use Rattle.std.specs.Prelude.{ℕ, ◌<◌, ◌≡◌, true, cond, List, [], ◌∷◌, eqb, ℤ, pos, Result, Ok, Err}
+use Rattle.questions.specs.declared.Missed.{Missed}
+use Rattle.questions.specs.Missed.{number_in}
 use Rattle.questions.specs.Questions.{Question, first_missed}
 use Rattle.layout.specs.declared.sides.Sides.{Sides}
 use Rattle.rects.specs.declared.Rect.{Rect}
 use Rattle.layout.specs.declared.page.Levelled.{Levelled}
 use Rattle.layout.specs.declared.rect.PageRect.{PageRect}
 use Rattle.layout.specs.declared.page.PagePlace.{PagePlace}
-use Rattle.layout.specs.declared.calls.Refused.{Refused}
 use Rattle.layout.specs.Sides.{sides_fit}
 use Rattle.layout.specs.Tables.{shears_long, shears_fit, tables_pass}
 use Rattle.layout.specs.Level.{level_row, level_column}
@@ -26,22 +27,13 @@ map_questions sides shear shear_x r =
 abbrev pub one_pixel : Levelled → Rect
 one_pixel p = record { x0 = p.0; y0 = p.1; x1 = p.0; y1 = p.1 }
 
--- A guard answers without an error where no question is missed, and else with the number of the first missed one, which is not 0.
-abbrev pub Guarded : List Question → Result Unit Refused → Type 0
-Guarded questions answer = MatchResult answer (λ u. first_missed questions ≡ 0) (λ e. (e.0 ≡ first_missed questions) × (0 < e.0))
-
--- The number of an answer: 0 where there is one, else the missed question's.
-abbrev pub number_of : {A : Type 0} → Result A Refused → ℕ
-number_of (Ok a) = 0
-number_of (Err e) = e.0
-
 -- The values of an answer: column and row, or none.
-abbrev pub mapped_values : Result PagePlace Refused → List ℤ
+abbrev pub mapped_values : Result PagePlace Missed → List ℤ
 mapped_values (Ok p) = p.0 ∷ p.1 ∷ []
 mapped_values (Err e) = []
 
 -- The values of an answer: x0, y0, x1, y1, or none.
-abbrev pub area_values : Result PageRect Refused → List ℕ
+abbrev pub area_values : Result PageRect Missed → List ℕ
 area_values (Ok r) = r.x0 ∷ r.y0 ∷ r.x1 ∷ r.y1 ∷ []
 area_values (Err e) = []
 
@@ -54,12 +46,12 @@ PixelBack sides shear shear_x p number values =
     → (number ≡ 0) × (values ≡ pos X ∷ pos Y ∷ [])
 
 -- `to_page` answers with the number of the first missed question, and with the page place where that is 0: the pixel itself, of a pixel's place.
-pub record ToPage (sides : Sides) (shear shear_x : List ℤ) (p : Levelled) (answer : Result PagePlace Refused) : Type 0 where
-  pub number : number_of answer ≡ first_missed (map_questions sides shear shear_x (one_pixel p))
-  pub values : let q = to_page sides shear shear_x p in mapped_values answer ≡ cond (eqb (number_of answer) 0) (q.0 ∷ q.1 ∷ []) []
-  pub pixel : PixelBack sides shear shear_x p (number_of answer) (mapped_values answer)
+pub record ToPage (sides : Sides) (shear shear_x : List ℤ) (p : Levelled) (answer : Result PagePlace Missed) : Type 0 where
+  pub number : number_in answer ≡ first_missed (map_questions sides shear shear_x (one_pixel p))
+  pub values : let q = to_page sides shear shear_x p in mapped_values answer ≡ cond (eqb (number_in answer) 0) (q.0 ∷ q.1 ∷ []) []
+  pub pixel : PixelBack sides shear shear_x p (number_in answer) (mapped_values answer)
 
 -- `rect_to_page` answers with the number of the first missed question, and with the page rectangle where that is 0.
-pub record RectToPage (sides : Sides) (shear shear_x : List ℤ) (r : Rect) (answer : Result PageRect Refused) : Type 0 where
-  pub number : number_of answer ≡ first_missed (map_questions sides shear shear_x r)
-  pub values : let q = rect_to_page sides shear shear_x r in area_values answer ≡ cond (eqb (number_of answer) 0) (q.x0 ∷ q.y0 ∷ q.x1 ∷ q.y1 ∷ []) []
+pub record RectToPage (sides : Sides) (shear shear_x : List ℤ) (r : Rect) (answer : Result PageRect Missed) : Type 0 where
+  pub number : number_in answer ≡ first_missed (map_questions sides shear shear_x r)
+  pub values : let q = rect_to_page sides shear shear_x r in area_values answer ≡ cond (eqb (number_in answer) 0) (q.x0 ∷ q.y0 ∷ q.x1 ∷ q.y1 ∷ []) []

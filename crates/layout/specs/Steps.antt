@@ -1,7 +1,17 @@
 -- What the functions of `layout` ask of the tables; none of it is needed to read the contracts.
 use Rattle.std.specs.Prelude.{ℕ, ◌-◌, ◌≤◌, ◌<◌, ◌≡◌, List, ℤ, pos, length, get_or}
 use Rattle.layout.specs.declared.sides.Sides.{Sides}
+use Rattle.layout.specs.declared.tables.Shears as declared
 use Rattle.layout.specs.Tables.{entry}
+
+-- What a `Shears` holds: sides, and the tables.
+pub record Shears : Type 0 where
+  pub sides : Sides
+  pub shear : List ℤ
+  pub shear_x : List ℤ
+
+abbrev pub shears_of : declared.Shears → Shears
+shears_of s = record { sides = s.sides; shear = s.shear.now; shear_x = s.shear_x.now }
 
 -- No entry is below 0.
 abbrev pub NotBelow : List ℤ → Type 0

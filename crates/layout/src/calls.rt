@@ -1,43 +1,32 @@
-// The calls: a guard computes the number of the first missed question, and a core does the work.
-ghost use Rattle.layout.specs.Call.{map_questions, Guarded, ToPage, RectToPage};
+// The calls: a guard finds the first missed question, and a core does the work.
+ghost use Rattle.std.specs.Prelude.{◌≡◌};
+ghost use Rattle.questions.specs.Questions.{first_missed};
+ghost use Rattle.questions.specs.Missed.{number_in};
+ghost use Rattle.layout.specs.Call.{map_questions, ToPage, RectToPage};
 
 use crate::page::{Levelled, PagePlace};
 use crate::rect::PageRect;
-use crate::sides::Sides;
-use crate::{page, sides, tables};
+use crate::sides;
+use crate::tables::Shears;
+use questions::{Missed, ask};
 use rects::Rect;
 
-// The number of the first missed question.
-#[derive(Clone, Copy)]
-pub struct Refused(pub u32);
-
 // The guard of `to_page` and `rect_to_page`.
-pub fn map_question(sides: Sides, shear: &[i32], shear_x: &[i32], r: Rect) -> Result<(), Refused>
-    ensures { Guarded (map_questions sides shear.now shear_x.now r) result }
+#[tactic(auto, using(crate::proofs::Guards::page_within))]
+pub fn missed(shears: &Shears, r: Rect) -> Result<(), Missed>
+    ensures { number_in result ≡ first_missed (map_questions shears.now.sides shears.now.shear.now shears.now.shear_x.now r) }
 {
-    if !sides::sides_fit(sides) {
-        return Err(Refused(1));
-    }
-    if !tables::tables_long(sides, shear, shear_x) {
-        return Err(Refused(3));
-    }
-    if !tables::tables_fit(sides, shear, shear_x) {
-        return Err(Refused(4));
-    }
-    if !r.is_inside(sides.w, sides.h) {
-        return Err(Refused(6));
-    }
-    Ok(())
+    let sides = shears.sides;
+    ask(sides::sides_fit(sides), Missed::Sides)?;
+    ask(shears.tables_long(), Missed::Lengths)?;
+    ask(shears.tables_fit(), Missed::Shears)?;
+    ask(r.is_inside(sides.w, sides.h), Missed::Rectangles)
 }
 
 // `to_page` of a levelled place.
-pub fn to_page(
-    sides: Sides,
-    shear: &[i32],
-    shear_x: &[i32],
-    p: Levelled,
-) -> Result<PagePlace, Refused>
-    ensures { ToPage sides shear.now shear_x.now p result }
+#[tactic(auto, using(crate::proofs::Guards::to_page_ready, crate::proofs::Pixels::to_page_is))]
+pub fn to_page(shears: &Shears, p: Levelled) -> Result<PagePlace, Missed>
+    ensures { ToPage shears.now.sides shears.now.shear.now shears.now.shear_x.now p result }
 {
     let pixel = Rect {
         x0: p.0,
@@ -45,19 +34,15 @@ pub fn to_page(
         x1: p.0,
         y1: p.1,
     };
-    map_question(sides, shear, shear_x, pixel)?;
-    Ok(page::to_page(sides, shear, shear_x, p))
+    missed(shears, pixel)?;
+    Ok(shears.to_page(p))
 }
 
 // `rect_to_page` of a rectangle of the levelled picture.
-pub fn rect_to_page(
-    sides: Sides,
-    shear: &[i32],
-    shear_x: &[i32],
-    r: Rect,
-) -> Result<PageRect, Refused>
-    ensures { RectToPage sides shear.now shear_x.now r result }
+#[tactic(auto, using(crate::proofs::Guards::rect_to_page_ready))]
+pub fn rect_to_page(shears: &Shears, r: Rect) -> Result<PageRect, Missed>
+    ensures { RectToPage shears.now.sides shears.now.shear.now shears.now.shear_x.now r result }
 {
-    map_question(sides, shear, shear_x, r)?;
-    Ok(page::rect_to_page(sides, shear, shear_x, r))
+    missed(shears, r)?;
+    Ok(shears.rect_to_page(r))
 }

@@ -6,8 +6,7 @@ ghost use Rattle.layout.specs.ToPage as To;
 ghost use Rattle.layout.specs.ToPage.{to_page, rect_to_page};
 
 use crate::rect::PageRect;
-use crate::sides::Sides;
-use crate::tables;
+use crate::tables::Shears;
 use rects::Rect;
 
 // A place of the levelled picture: column and row.
@@ -22,6 +21,7 @@ fn difference(a: usize, b: usize) -> i64
     requires { (a ≤ 8192) × (b ≤ 8192) }
     ensures { result ≡ sub_ℕ a b }
 {
+    // There is no `From` between them.
     (a as i64) - (b as i64)
 }
 
@@ -52,33 +52,39 @@ fn greatest(a: i64, b: i64, c: i64, d: i64) -> i64
     a.max(b).max(c.max(d))
 }
 
-// `to_page`, for sides and tables that pass their questions, and a place inside the picture.
-pub fn to_page(sides: Sides, shear: &[i32], shear_x: &[i32], p: Levelled) -> PagePlace
-    requires { Sheared sides shear.now shear_x.now × ((1 ≤ sides.pw) × ((p.0 < sides.w) × (p.1 < sides.h))) }
-    ensures { result ≡ to_page sides shear.now shear_x.now p }
-{
-    let x = p.0 as usize;
-    let y = p.1 as usize;
-    let column = difference(x, tables::entry_at(shear_x, y));
-    let on_page = nearest(sides.pw, column);
-    let row = difference(y, tables::entry_at(shear, on_page));
-    PagePlace(column, row)
-}
+impl Shears<'_> {
+    // `to_page`, for sides and tables that pass their questions, and a place inside the picture.
+    pub fn to_page(&self, p: Levelled) -> PagePlace
+        requires { Sheared self.now.sides self.now.shear.now self.now.shear_x.now
+            × ((1 ≤ self.now.sides.pw) × ((p.0 < self.now.sides.w) × (p.1 < self.now.sides.h))) }
+        ensures { result ≡ to_page self.now.sides self.now.shear.now self.now.shear_x.now p }
+    {
+        let x = p.0 as usize;
+        let y = p.1 as usize;
+        let column = difference(x, self.across(y));
+        let on_page = nearest(self.sides.pw, column);
+        let row = difference(y, self.down(on_page));
+        PagePlace(column, row)
+    }
 
-// `rect_to_page`, likewise, for a rectangle with its corners inside the picture.
-pub fn rect_to_page(sides: Sides, shear: &[i32], shear_x: &[i32], r: Rect) -> PageRect
-    requires { Sheared sides shear.now shear_x.now × (((1 ≤ sides.pw) × (1 ≤ sides.ph))
-        × (((r.x0 < sides.w) × (r.y0 < sides.h)) × ((r.x1 < sides.w) × (r.y1 < sides.h)))) }
-    ensures { result ≡ rect_to_page sides shear.now shear_x.now r }
-{
-    let a = to_page(sides, shear, shear_x, Levelled(r.x0, r.y0));
-    let b = to_page(sides, shear, shear_x, Levelled(r.x1, r.y0));
-    let c = to_page(sides, shear, shear_x, Levelled(r.x0, r.y1));
-    let d = to_page(sides, shear, shear_x, Levelled(r.x1, r.y1));
-    PageRect {
-        x0: clamped(sides.pw, least(a.0, b.0, c.0, d.0)),
-        y0: clamped(sides.ph, least(a.1, b.1, c.1, d.1)),
-        x1: clamped(sides.pw, greatest(a.0, b.0, c.0, d.0)),
-        y1: clamped(sides.ph, greatest(a.1, b.1, c.1, d.1)),
+    // `rect_to_page`, likewise, for a rectangle with its corners inside the picture.
+    pub fn rect_to_page(&self, r: Rect) -> PageRect
+        requires { Sheared self.now.sides self.now.shear.now self.now.shear_x.now
+            × (((1 ≤ self.now.sides.pw) × (1 ≤ self.now.sides.ph))
+            × (((r.x0 < self.now.sides.w) × (r.y0 < self.now.sides.h))
+            × ((r.x1 < self.now.sides.w) × (r.y1 < self.now.sides.h)))) }
+        ensures { result ≡ rect_to_page self.now.sides self.now.shear.now self.now.shear_x.now r }
+    {
+        let a = self.to_page(Levelled(r.x0, r.y0));
+        let b = self.to_page(Levelled(r.x1, r.y0));
+        let c = self.to_page(Levelled(r.x0, r.y1));
+        let d = self.to_page(Levelled(r.x1, r.y1));
+        let sides = self.sides;
+        PageRect {
+            x0: clamped(sides.pw, least(a.0, b.0, c.0, d.0)),
+            y0: clamped(sides.ph, least(a.1, b.1, c.1, d.1)),
+            x1: clamped(sides.pw, greatest(a.0, b.0, c.0, d.0)),
+            y1: clamped(sides.ph, greatest(a.1, b.1, c.1, d.1)),
+        }
     }
 }

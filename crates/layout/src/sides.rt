@@ -25,6 +25,7 @@ pub fn levelled_sides_fit(w: usize, h: usize) -> bool
 }
 
 // Question 1.
+#[tactic(auto, unfolding(crate::specs::Sides::sides_fit))]
 pub fn sides_fit(sides: Sides) -> bool
     ensures { result ≡ sides_fit sides }
 {
@@ -34,6 +35,7 @@ pub fn sides_fit(sides: Sides) -> bool
 }
 
 // One byte for each place.
+#[tactic(auto, unfolding(crate::specs::Sides::raster_fits))]
 pub fn raster_fits(w: usize, h: usize, n: usize) -> bool
     requires { (w ≤ 8192) × (h ≤ 8192) }
     ensures { result ≡ raster_fits w h n }

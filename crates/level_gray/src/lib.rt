@@ -1,19 +1,19 @@
-// `level_gray`: a guard computes the number of the first missed question, and a core does the work.
+// `level_gray`: a guard finds the first missed question, and a core does the work.
 #![tactic(auto)]
 
+ghost use Rattle.questions.specs.Missed.{number_in};
 ghost use Rattle.level_gray.specs.Call.{LevelGray};
 
-use layout::sides::Sides;
+use layout::tables::Shears;
 use level_questions::guard;
+use questions::Missed;
 
-// The number of the first missed question, and the levelled raster where that is 0.
-pub fn level_gray(sides: Sides, gray: &[u8], shear: &[i32], shear_x: &[i32], out: &mut [u8]) -> u32
-    ensures { LevelGray sides gray.now shear.now shear_x.now out.old out.new result }
+// The levelled raster, where no question is missed.
+#[tactic(auto, using(crate::proofs::Guards::level_refused, crate::proofs::Guards::ready_yes, crate::proofs::Guards::level_accepted))]
+pub fn level_gray(shears: &Shears, gray: &[u8], out: &mut [u8]) -> Result<(), Missed>
+    ensures { LevelGray shears.now.sides gray.now shears.now.shear.now shears.now.shear_x.now out.old out.new (number_in result) }
 {
-    let number = guard::missed(sides, gray.len(), shear, shear_x, out.len());
-    if number != 0 {
-        return number;
-    }
-    levelling::level(sides, gray, shear, shear_x, out);
-    number
+    guard::missed(shears, gray.len(), out.len())?;
+    levelling::level(shears, gray, out);
+    Ok(())
 }

@@ -2,19 +2,26 @@
 use mathlib.Core.Path.{◌≡◌}
 use mathlib.Core.Bool.{true}
 use mathlib.Core.List.{List}
-use Prim.Native.Nat.{ℕ, ◌*◌}
+use Prim.Native.Nat.{ℕ, ◌*◌, ◌≤◌}
+use native.Mathlib.Omega.{arith}
 use lib.IntN.{ℤ}
 use Rattle.questions.specs.Questions.{first_missed}
 use Rattle.questions.proofs.FirstMissed.{all_yes, none_missed}
 use Rattle.lists.proofs.Every.{and_both}
 use Rattle.layout.specs.declared.sides.Sides.{Sides}
-use Rattle.layout.specs.Sides.{raster_fits}
+use Rattle.layout.specs.Sides.{sides_fit, raster_fits}
 use Rattle.layout.specs.Tables.{shears_long, tables_pass}
 use Rattle.layout.specs.Steps.{Sheared}
 use Rattle.layout.proofs.Every.{and_parts}
-use Rattle.layout.proofs.Answers.{raster_yes, raster_of}
+use Rattle.layout.proofs.Answers.{sides_yes, raster_yes, raster_of}
 use Rattle.layout.proofs.Pixels.{tables_yes, tables_sheared}
 use Rattle.level_questions.specs.Questions.{level_questions}
+
+-- what the later questions ask of the sides
+pub sides_are : (s : Sides) → sides_fit s ≡ true → ((s.pw ≤ 8192) × (s.ph ≤ 8192)) × (((s.w ≤ 8192) × (s.h ≤ 8192)) × ((s.pw ≤ s.w) × (s.ph ≤ s.h)))
+sides_are s h =
+    let a = sides_yes s h in
+    ((omega (arith, a.page_wide, a.w_most), omega (arith, a.page_high, a.h_most)), ((a.w_most, a.h_most), (a.page_wide, a.page_high)))
 
 module _ (sides : Sides) (shear shear_x : List ℤ) (page level : ℕ) where
   -- sides, tables and both rasters, as plain facts

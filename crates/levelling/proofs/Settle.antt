@@ -5,82 +5,44 @@ use mathlib.Core.Logic.{◌⊎◌, inl, inr, ⊎_elim}
 use mathlib.Core.List.{List}
 use Prim.Native.Nat.{ℕ, ◌+◌, ◌-◌, ◌*◌, ◌≤◌, ◌<◌}
 use native.Mathlib.Omega.{arith}
-use lib.IntN.{ℤ}
 use lib.ListN.{length, get_or, take, drop, replicate, length-drop, length-replicate, get_or-replicate}
 use lib.Seq.{length-take-le}
-use Rattle.layout.specs.declared.sides.Sides.{Sides}
 use Rattle.layout.specs.Tables.{entry}
+use Rattle.layout.specs.Steps.{Shears}
 use Rattle.shear_runs.specs.Steps.{Together, Shows, InRows, Columns, All}
-use Rattle.levelling.specs.Steps.{Painted, Sheets, Ready, Whitened, LevelledArea, Outside, Margins}
-use Rattle.layout.specs.Level.{column_shows, page_shows, place_shows}
+use Rattle.levelling.specs.Steps.{Painted, Ready, Whitened, LevelledArea, Outside, Margins}
+use Rattle.layout.specs.Level.{page_shows, place_shows}
 use Rattle.layout.proofs.Places.{le_or_lt, row_within}
 use Rattle.layout.proofs.Shows.{place_on, place_beside}
 use Rattle.shear_runs.proofs.Parts.{put, put_length}
-use Rattle.shear_runs.proofs.Areas.{holds_none, holds_then, holds_in, part_holds, part_long, part_shows}
-
--- what is given at one step is given at the next
-pub ready_long : {sides : Sides} {gray : List ℕ} {shear shear_x : List ℤ} {a : List ℕ} (b : List ℕ) → length b ≡ length a → Ready sides gray shear shear_x a → Ready sides gray shear shear_x b
-ready_long b l r = record { sheared = r.sheared; grey_long = r.grey_long; out_long = l ∙ r.out_long }
-
-pub ready_after : {sides : Sides} {gray : List ℕ} {shear shear_x : List ℤ} {f : ℕ → ℕ → ℕ} {area : ℕ → ℕ → Type 0} {a b : List ℕ} → Ready sides gray shear shear_x a → Shows sides.w f area a b → Ready sides gray shear shear_x b
-ready_after {b} r h = ready_long b h.long r
-
--- a run shows each of its columns
-pub run_painted : (sides : Sides) (gray : List ℕ) (shear : List ℤ) {from y down : ℕ} {out out' : List ℕ} → down ≡ entry shear from
-    → ((i : ℕ) → from ≤ i → i < from + length out → entry shear i ≡ entry shear from) → Painted (column_shows sides gray down) from y out out'
-    → Painted (page_shows sides gray shear) from y out out'
-run_painted sides gray shear {from} {y} e same P =
-    record {
-      long = P.long;
-      shows = λ k l. P.shows k l ∙ ap (λ (s : ℕ). column_shows sides gray s (from + k) y) (e ∙ sym (same (from + k) (omega arith) (omega arith)));
-    }
+use Rattle.shear_runs.proofs.Areas.{holds_then, holds_in, part_holds, part_long, part_shows}
 
 -- in one row, the places of columns that are levelled together
-module _ (sides : Sides) (gray : List ℕ) (shear shear_x : List ℤ) (out : List ℕ) (from to y : ℕ) {run : Bool} (ready : Ready sides gray shear shear_x out) (part : Together shear from to run) (in_rows : y < sides.h) where
+module _ (shears : Shears) (gray : List ℕ) (out : List ℕ) (from to y : ℕ) {run : Bool} (ready : Ready shears gray out) (part : Together shears.shear from to run) (in_rows : y < shears.sides.h) where
   -- the row's part that they take
-  pub part_within : (to ≤ sides.pw) × ((entry shear_x y + to ≤ sides.w) × (y * sides.w + sides.w ≤ length out))
+  pub part_within : (to ≤ shears.sides.pw) × ((entry shears.shear_x y + to ≤ shears.sides.w) × (y * shears.sides.w + shears.sides.w ≤ length out))
   part_within =
       let long = ready.sheared.columns.long in
       let most = ready.sheared.rows.most y in_rows in
-      let last = row_within sides.w sides.h in_rows in
+      let last = row_within shears.sides.w shears.sides.h in_rows in
       (omega (arith, part.within), (omega (arith, part.within, ready.sheared.page_wide), omega (arith, ready.out_long)))
 
   -- what is lent of the row is as long as they are many
-  lent : (s n : ℕ) → s ≡ y * sides.w + entry shear_x y + from → n ≡ to - from → length (take n (drop s out)) ≡ n
+  lent : (s n : ℕ) → s ≡ y * shears.sides.w + entry shears.shear_x y + from → n ≡ to - from → length (take n (drop s out)) ≡ n
   lent s n is-s is-n =
       let room = part_within in
-      part_long sides.w (place_shows sides gray shear shear_x) (entry shear_x) from to y s n out part.more room.1.0 room.1.1 is-s is-n
+      part_long shears.sides.w (place_shows shears.sides gray shears.shear shears.shear_x) (entry shears.shear_x) from to y s n out part.more room.1.0 room.1.1 is-s is-n
 
-  pub part_given : (at s n : ℕ) → at ≡ entry shear_x y → s ≡ y * sides.w + at + from → n ≡ to - from
-      → let k = length (take n (drop s out)) in Sheets sides gray shear × ((from + k ≤ sides.pw) × Together shear from (from + k) run)
-  part_given at s n is_at is-s is-n =
-      let room = part_within in
-      let long = lent s n (omega arith) is-n in
-      let end : from + length (take n (drop s out)) ≡ to = omega (arith, part.more) in
-      let r = ready.sheared in (
-        record {
-          wide = omega (arith, r.page_wide, r.wide);
-          high = omega (arith, r.page_high, r.high);
-          grey_long = ready.grey_long;
-          columns = r.columns.long;
-          whole = r.columns.whole;
-        },
-        (omega (arith, room.0), rw end part),
-      )
-
-  pub part_settled : (at s n : ℕ) (ys : List ℕ) → at ≡ entry shear_x y → s ≡ y * sides.w + at + from → n ≡ to - from → Painted (page_shows sides gray shear) from y (take n (drop s out)) ys → LevelledArea sides gray shear shear_x (Columns (entry shear_x) from to) y (y + 1) out (put s n ys out)
+  pub part_settled : (at s n : ℕ) (ys : List ℕ) → at ≡ entry shears.shear_x y → s ≡ y * shears.sides.w + at + from → n ≡ to - from → Painted (page_shows shears.sides gray shears.shear) from y (take n (drop s out)) ys → LevelledArea shears gray (Columns (entry shears.shear_x) from to) y (y + 1) out (put s n ys out)
   part_settled at s n ys is_at is-s is-n painted =
-      let f = place_shows sides gray shear shear_x in
+      let f = place_shows shears.sides gray shears.shear shears.shear_x in
       let room = part_within in
-      let here : s ≡ y * sides.w + entry shear_x y + from = omega arith in
+      let here : s ≡ y * shears.sides.w + entry shears.shear_x y + from = omega arith in
       let long = lent s n here is-n in
-      part_shows sides.w f (entry shear_x) from to y s n out part.more room.1.0 room.1.1 here is-n ys (painted.long ∙ long)
-      (λ k m. painted.shows k (omega arith) ∙ sym (place_on sides gray shear shear_x (entry shear_x y + from + k) y (from + k) (omega arith) (omega (arith, part.more, room.0))))
+      part_shows shears.sides.w f (entry shears.shear_x) from to y s n out part.more room.1.0 room.1.1 here is-n ys (painted.long ∙ long)
+      (λ k m. painted.shows k (omega arith) ∙ sym (place_on shears.sides gray shears.shear shears.shear_x (entry shears.shear_x y + from + k) y (from + k) (omega arith) (omega (arith, part.more, room.0))))
 
 -- ---- white paper
-
-pub white_none : (w : ℕ) (area : ℕ → ℕ → Type 0) (y : ℕ) (out : List ℕ) → Whitened w (InRows y y area) out out
-white_none w area y out = record { holds = λ f white. holds_none w f (InRows y y area) out (λ x z l h. omega (arith, h.0.0, h.0.1)) }
 
 pub white_then : {w : ℕ} {P Q R : ℕ → ℕ → Type 0} {a b c : List ℕ} → Whitened w P a b → Whitened w Q b c → ((x y : ℕ) → x < w → R x y → P x y ⊎ Q x y) → ((x y : ℕ) → x < w → P x y → R x y) → ((x y : ℕ) → x < w → Q x y → R x y) → Whitened w R a c
 white_then p q cover from-p from-q =
@@ -121,28 +83,28 @@ white_margins w y from to out ys zs order room left right =
     (λ x z l h. (h.0, inr h.1.0))
 
 -- the margins of the rows up to y, then those of row y, where s is its shift
-pub margins_more : (sides : Sides) (shear_x : List ℤ) (y0 y s : ℕ) {a b c : List ℕ} → y0 ≤ y → s ≡ entry shear_x y → Whitened sides.w (InRows y0 y (Margins sides shear_x)) a b → Whitened sides.w (InRows y (y + 1) (Outside s (s + sides.pw))) b c → Whitened sides.w (InRows y0 (y + 1) (Margins sides shear_x)) a c
-margins_more sides shear_x y0 y s order is-s p q = white_then p q cover (λ x z l h. ((h.0.0, omega (arith, h.0.1)), h.1)) back
+pub margins_more : (shears : Shears) (y0 y s : ℕ) {a b c : List ℕ} → y0 ≤ y → s ≡ entry shears.shear_x y → Whitened shears.sides.w (InRows y0 y (Margins shears)) a b → Whitened shears.sides.w (InRows y (y + 1) (Outside s (s + shears.sides.pw))) b c → Whitened shears.sides.w (InRows y0 (y + 1) (Margins shears)) a c
+margins_more shears y0 y s order is-s p q = white_then p q cover (λ x z l h. ((h.0.0, omega (arith, h.0.1)), h.1)) back
   where
-    cover : (x z : ℕ) → x < sides.w → InRows y0 (y + 1) (Margins sides shear_x) x z → InRows y0 y (Margins sides shear_x) x z ⊎ InRows y (y + 1) (Outside s (s + sides.pw)) x z
+    cover : (x z : ℕ) → x < shears.sides.w → InRows y0 (y + 1) (Margins shears) x z → InRows y0 y (Margins shears) x z ⊎ InRows y (y + 1) (Outside s (s + shears.sides.pw)) x z
     cover x z l h =
         ⊎_elim
         (λ (m : y ≤ z).
-        let same : entry shear_x z ≡ s = ap (entry shear_x) (omega (arith, h.0.1)) ∙ sym is-s in
-        inr ((m, h.0.1), ⊎_elim (λ (g : x < entry shear_x z). inl (omega arith)) (λ (g : entry shear_x z + sides.pw ≤ x). inr (omega arith)) h.1))
+        let same : entry shears.shear_x z ≡ s = ap (entry shears.shear_x) (omega (arith, h.0.1)) ∙ sym is-s in
+        inr ((m, h.0.1), ⊎_elim (λ (g : x < entry shears.shear_x z). inl (omega arith)) (λ (g : entry shears.shear_x z + shears.sides.pw ≤ x). inr (omega arith)) h.1))
         (λ (m : z < y). inl ((h.0.0, m), h.1))
         (le_or_lt y z)
 
-    back : (x z : ℕ) → x < sides.w → InRows y (y + 1) (Outside s (s + sides.pw)) x z → InRows y0 (y + 1) (Margins sides shear_x) x z
+    back : (x z : ℕ) → x < shears.sides.w → InRows y (y + 1) (Outside s (s + shears.sides.pw)) x z → InRows y0 (y + 1) (Margins shears) x z
     back x z l h =
-        let same : entry shear_x z ≡ s = ap (entry shear_x) (omega (arith, h.0.0, h.0.1)) ∙ sym is-s in
-        ((omega (arith, h.0.0), h.0.1), ⊎_elim (λ (g : x < s). inl (omega arith)) (λ (g : s + sides.pw ≤ x). inr (omega arith)) h.1)
+        let same : entry shears.shear_x z ≡ s = ap (entry shears.shear_x) (omega (arith, h.0.0, h.0.1)) ∙ sym is-s in
+        ((omega (arith, h.0.0), h.0.1), ⊎_elim (λ (g : x < s). inl (omega arith)) (λ (g : s + shears.sides.pw ≤ x). inr (omega arith)) h.1)
 
 -- the margins of a band, then all its columns
-pub band_whole : (sides : Sides) (gray : List ℕ) (shear shear_x : List ℤ) (y0 y1 n : ℕ) {a b c : List ℕ} → sides.pw ≤ n → Whitened sides.w (InRows y0 y1 (Margins sides shear_x)) a b → LevelledArea sides gray shear shear_x (Columns (entry shear_x) 0 n) y0 y1 b c → LevelledArea sides gray shear shear_x All y0 y1 a c
-band_whole sides gray shear shear_x y0 y1 n whole p q =
-    holds_then (p.holds (place_shows sides gray shear shear_x) (λ x z l h. place_beside sides gray shear shear_x x z h.1)) q (λ x z l h.
+pub band_whole : (shears : Shears) (gray : List ℕ) (y0 y1 n : ℕ) {a b c : List ℕ} → shears.sides.pw ≤ n → Whitened shears.sides.w (InRows y0 y1 (Margins shears)) a b → LevelledArea shears gray (Columns (entry shears.shear_x) 0 n) y0 y1 b c → LevelledArea shears gray All y0 y1 a c
+band_whole shears gray y0 y1 n whole p q =
+    holds_then (p.holds (place_shows shears.sides gray shears.shear shears.shear_x) (λ x z l h. place_beside shears.sides gray shears.shear shears.shear_x x z h.1)) q (λ x z l h.
     ⊎_elim
-    (λ (m : entry shear_x z ≤ x). ⊎_elim (λ (g : entry shear_x z + sides.pw ≤ x). inl (h.0, inr g)) (λ (g : x < entry shear_x z + sides.pw). inr (h.0, (omega arith, omega arith))) (le_or_lt (entry shear_x z + sides.pw) x))
-    (λ (m : x < entry shear_x z). inl (h.0, inl m))
-    (le_or_lt (entry shear_x z) x))
+    (λ (m : entry shears.shear_x z ≤ x). ⊎_elim (λ (g : entry shears.shear_x z + shears.sides.pw ≤ x). inl (h.0, inr g)) (λ (g : x < entry shears.shear_x z + shears.sides.pw). inr (h.0, (omega arith, omega arith))) (le_or_lt (entry shears.shear_x z + shears.sides.pw) x))
+    (λ (m : x < entry shears.shear_x z). inl (h.0, inl m))
+    (le_or_lt (entry shears.shear_x z) x))

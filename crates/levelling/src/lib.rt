@@ -7,10 +7,11 @@ ghost use Rattle.std.specs.Prelude.{◌≡◌, ◌+◌, ◌*◌, ◌≤◌, ◌<
 ghost use Rattle.shear_runs.specs.Steps.{Together, Frame, InRows, Columns, All};
 ghost use Rattle.levelling.specs.Steps.{Painted, Sheets, Ready, Whitened, LevelledArea, Outside, Margins};
 ghost use Rattle.layout.specs.Tables.{entry};
+ghost use Rattle.layout.specs.Steps.{shears_of};
 ghost use Rattle.layout.specs.Level.{column_shows, page_shows, levelled};
 
 use layout::sides::Sides;
-use layout::tables;
+use layout::tables::Shears;
 use shear_runs::columns::Part;
 use shear_runs::{bands, columns};
 
@@ -47,55 +48,37 @@ fn level_pixel(sides: Sides, gray: &[u8], x: usize, down: usize, y: usize) -> u8
 }
 
 // Page columns from column `from` on, each moved down by its own shear, as levelled row y shows them.
-fn level_pixels(sides: Sides, gray: &[u8], shear: &[i32], out: &mut [u8], from: usize, y: usize)
-    requires { Sheets sides gray.now shear.now × (from + length out.old ≤ sides.pw) }
-    ensures { Painted (page_shows sides gray.now shear.now) from y out.old out.new }
+fn level_pixels(shears: &Shears, gray: &[u8], out: &mut [u8], from: usize, y: usize)
+    requires { Sheets (shears_of shears.now) gray.now × (from + length out.old ≤ shears.now.sides.pw) }
+    ensures { Painted (page_shows shears.now.sides gray.now shears.now.shear.now) from y out.old out.new }
 {
     for (k, pixel) in out.iter_mut().enumerate() {
         let x = from + k;
-        *pixel = level_pixel(sides, gray, x, tables::entry_at(shear, x), y);
+        *pixel = level_pixel(shears.sides, gray, x, shears.down(x), y);
     }
 }
 
 // Page columns that are levelled together, as levelled row y shows them.
-fn level_together(
-    sides: Sides,
-    gray: &[u8],
-    shear: &[i32],
-    out: &mut [u8],
-    from: usize,
-    run: bool,
-    y: usize,
-)
-    requires { Sheets sides gray.now shear.now × ((from + length out.old ≤ sides.pw) × Together shear.now from (from + length out.old) run) }
-    ensures { Painted (page_shows sides gray.now shear.now) from y out.old out.new }
+fn level_together(shears: &Shears, gray: &[u8], out: &mut [u8], from: usize, run: bool, y: usize)
+    requires { Sheets (shears_of shears.now) gray.now × ((from + length out.old ≤ shears.now.sides.pw) × Together shears.now.shear.now from (from + length out.old) run) }
+    ensures { Painted (page_shows shears.now.sides gray.now shears.now.shear.now) from y out.old out.new }
 {
     if run {
-        return level_run(sides, gray, out, from, tables::entry_at(shear, from), y);
+        return level_run(shears.sides, gray, out, from, shears.down(from), y);
     }
-    level_pixels(sides, gray, shear, out, from, y)
+    level_pixels(shears, gray, out, from, y)
 }
 
 // The columns of one part, in row y.
-fn level_part(
-    sides: Sides,
-    gray: &[u8],
-    shear: &[i32],
-    shear_x: &[i32],
-    out: &mut [u8],
-    from: usize,
-    part: Part,
-    y: usize,
-)
-    requires { Ready sides gray.now shear.now shear_x.now out.old × (Together shear.now from part.to part.run × (y < sides.h)) }
-    ensures { LevelledArea sides gray.now shear.now shear_x.now (Columns (entry shear_x.now) from part.to) y
+fn level_part(shears: &Shears, gray: &[u8], out: &mut [u8], from: usize, part: Part, y: usize)
+    requires { Ready (shears_of shears.now) gray.now out.old × (Together shears.now.shear.now from part.to part.run × (y < shears.now.sides.h)) }
+    ensures { LevelledArea (shears_of shears.now) gray.now (Columns (entry shears.now.shear_x.now) from part.to) y
         (y + 1) out.old out.new }
 {
-    let page = y * sides.w + tables::entry_at(shear_x, y);
+    let page = y * shears.sides.w + shears.across(y);
     level_together(
-        sides,
+        shears,
         gray,
-        shear,
         &mut out[page + from..page + part.to],
         from,
         part.run,
@@ -105,22 +88,20 @@ fn level_part(
 
 // The columns of one part, in the rows from y0 up to y1.
 fn level_columns(
-    sides: Sides,
+    shears: &Shears,
     gray: &[u8],
-    shear: &[i32],
-    shear_x: &[i32],
     out: &mut [u8],
     from: usize,
     part: Part,
     y0: usize,
     y1: usize,
 )
-    requires { Ready sides gray.now shear.now shear_x.now out.old × (Together shear.now from part.to part.run × (y1 ≤ sides.h)) }
-    ensures { LevelledArea sides gray.now shear.now shear_x.now (Columns (entry shear_x.now) from part.to) y0 y1
+    requires { Ready (shears_of shears.now) gray.now out.old × (Together shears.now.shear.now from part.to part.run × (y1 ≤ shears.now.sides.h)) }
+    ensures { LevelledArea (shears_of shears.now) gray.now (Columns (entry shears.now.shear_x.now) from part.to) y0 y1
         out.old out.new }
 {
     for y in y0..y1 {
-        level_part(sides, gray, shear, shear_x, out, from, part, y);
+        level_part(shears, gray, out, from, part, y);
     }
 }
 
@@ -135,49 +116,42 @@ fn pad_row(w: usize, out: &mut [u8], y: usize, from: usize, to: usize)
 }
 
 // White paper left and right of the page, in the rows from y0 up to y1.
-fn pad_rows(sides: Sides, shear_x: &[i32], out: &mut [u8], y0: usize, y1: usize)
-    requires { Frame sides shear_x.now × ((length out.old ≡ sides.w * sides.h) × ((y0 ≤ y1) × (y1 ≤ sides.h))) }
-    ensures { Whitened sides.w (InRows y0 y1 (Margins sides shear_x.now)) out.old out.new }
+fn pad_rows(shears: &Shears, out: &mut [u8], y0: usize, y1: usize)
+    requires { Frame shears.now.sides shears.now.shear_x.now × ((length out.old ≡ shears.now.sides.w * shears.now.sides.h) × ((y0 ≤ y1) × (y1 ≤ shears.now.sides.h))) }
+    ensures { Whitened shears.now.sides.w (InRows y0 y1 (Margins (shears_of shears.now))) out.old out.new }
 {
+    let sides = shears.sides;
     for y in y0..y1 {
-        let from = tables::entry_at(shear_x, y);
+        let from = shears.across(y);
         pad_row(sides.w, out, y, from, from + sides.pw);
     }
 }
 
-// The rows from y0 up to y1. The loop goes from part to part.
-fn level_rows(
-    sides: Sides,
-    gray: &[u8],
-    shear: &[i32],
-    shear_x: &[i32],
-    out: &mut [u8],
-    y0: usize,
-    y1: usize,
-)
-    requires { Ready sides gray.now shear.now shear_x.now out.old × ((y0 ≤ y1) × (y1 ≤ sides.h)) }
-    ensures { LevelledArea sides gray.now shear.now shear_x.now All y0 y1 out.old out.new }
+// The rows from y0 up to y1. The walk is by hand, since a part begins where the last one ended, and only it knows where it ends.
+fn level_rows(shears: &Shears, gray: &[u8], out: &mut [u8], y0: usize, y1: usize)
+    requires { Ready (shears_of shears.now) gray.now out.old × ((y0 ≤ y1) × (y1 ≤ shears.now.sides.h)) }
+    ensures { LevelledArea (shears_of shears.now) gray.now All y0 y1 out.old out.new }
 {
-    pad_rows(sides, shear_x, out, y0, y1);
+    pad_rows(shears, out, y0, y1);
     let mut x = 0;
-    while x < shear.len() {
-        let part = columns::part_at(shear, x);
-        level_columns(sides, gray, shear, shear_x, out, x, part, y0, y1);
+    while x < shears.shear.len() {
+        let part = columns::part_at(shears.shear, x);
+        level_columns(shears, gray, out, x, part, y0, y1);
         x = part.to;
     }
 }
 
 // The levelled raster, for sides, tables and rasters that pass their questions. Bands of 16 rows keep what is written in the cache.
 // `step_by` would be no plainer, since a band needs its end too.
-pub fn level(sides: Sides, gray: &[u8], shear: &[i32], shear_x: &[i32], out: &mut [u8])
-    requires { Ready sides gray.now shear.now shear_x.now out.old }
-    ensures { out.new ≡ levelled sides gray.now shear.now shear_x.now }
+pub fn level(shears: &Shears, gray: &[u8], out: &mut [u8])
+    requires { Ready (shears_of shears.now) gray.now out.old }
+    ensures { out.new ≡ levelled shears.now.sides gray.now shears.now.shear.now shears.now.shear_x.now }
 {
-    let h = sides.h;
+    let h = shears.sides.h;
     let mut y = 0;
     while y < h {
         let end = bands::band_end(y, h, 16);
-        level_rows(sides, gray, shear, shear_x, out, y, end);
+        level_rows(shears, gray, out, y, end);
         y = end;
     }
 }

@@ -8,10 +8,9 @@ use native.Mathlib.Omega.{arith}
 use borrow.Author.Tests.{le-ltb}
 use lib.ListN.{length, get_or}
 use lib.Seq.{get_or-take}
-use Rattle.lists.proofs.Keep.{get_d_map}
 use Rattle.order.specs.Order.{key_at, sorted_indexes}
-use Rattle.order.proofs.Computed.{sorted_by_lem, sorted_length}
-use Rattle.lines.specs.Lines.{sorted_positions, exceeds, line_at, lines_to}
+use Rattle.order.proofs.Computed.{sorted_by_lem}
+use Rattle.lines.specs.Lines.{exceeds, line_at, lines_to}
 use Rattle.lines.specs.Steps.{Ordered}
 
 module _ (positions o : List ℕ) (O : Ordered positions o) (i : ℕ) (l : i < length positions) where
@@ -20,11 +19,6 @@ module _ (positions o : List ℕ) (O : Ordered positions o) (i : ℕ) (l : i < l
 
   pub place_within : get_or o i 0 < length positions
   place_within = rw same_place ((sorted_by_lem (key_at positions) (length positions)).within i l)
-
-  pub position_at : get_or positions (get_or o i 0) 0 ≡ get_or (sorted_positions positions) i 0
-  position_at =
-      ap (key_at positions) same_place
-      ∙ sym (get_d_map (key_at positions) (sorted_indexes positions) i 0 (rw (sorted_length (key_at positions) (length positions)) l))
 
 -- the place before
 abbrev pub prior : ℕ → ℕ

@@ -21,7 +21,7 @@ fn sorted_at(positions: &[u64], order: &[u32], i: usize) -> u64
     positions[index]
 }
 
-// The line in hand: its number, and its last position.
+// The line in hand: its number, which is a count of lines and no code, and its last position.
 #[derive(Clone, Copy)]
 pub struct Line {
     pub number: u32,

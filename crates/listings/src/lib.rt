@@ -1,5 +1,8 @@
-// Listing of closed sets, for any touching rule, and the members of one set of a listing.
+// Listing of closed sets, for any touching rule, and the members of one set of a listing. A number of entries stands beside
+// a list, since the lists are lent and may be longer.
 #![tactic(auto)]
+
+pub mod listed;
 
 ghost use Rattle.std.specs.Prelude.{◌≡◌, List, ℕ, ◌≤◌, ◌<◌, length};
 ghost use Rattle.sets.specs.Listing.{start_of, members_of};

@@ -1,14 +1,14 @@
 -- Positions that pass a test are gathered from the front; what fails is overwritten by the next.
-use mathlib.Core.Path.{◌≡◌, refl, sym, ap, ap₂, ◌∙◌}
+use mathlib.Core.Path.{◌≡◌, sym, ap, ap₂, ◌∙◌}
 use mathlib.Core.Bool.{Bool, true, false, cond}
 use mathlib.Core.List.{List, [], ◌∷◌, ◌++◌, map, append-nil}
 use Prim.Native.Nat.{ℕ, ◌+◌, ◌≤◌, ◌<◌}
-use native.Mathlib.Nat.{le_refl, le_of_eq, add-zero}
+use native.Mathlib.Nat.{le_refl, add-zero}
 use native.Mathlib.Numerals.{add-one}
 use native.Mathlib.Omega.{arith}
 use Rattle.std.specs.Int.{from_bool}
 use lib.ListN.{length, get_or, take, set, length-append}
-use lib.Seq.{take-suc, take-suc-set, take-set-le, take_all}
+use lib.Seq.{take-suc, take-suc-set, take-set-le}
 use Rattle.lists.specs.Lists.{keep}
 use Rattle.lists.proofs.Keep.{keep_append, map_append}
 
@@ -18,9 +18,6 @@ module _ (q : ℕ → Bool) (f : ℕ → ℕ) (members : List ℕ) where
     pub count : n ≡ length (keep q (take k members))
     pub content : take n l ≡ map f (keep q (take k members))
     pub low : n ≤ k
-
-  pub gather_begin : (l : List ℕ) → Gathering l 0 0
-  gather_begin l = record { count = refl; content = refl; low = le_refl 0 }
 
   seen : (k : ℕ) (b : Bool) → k < length members → b ≡ q (get_or members k 0)
       → keep q (take (k + 1) members) ≡ keep q (take k members) ++ cond b (get_or members k 0 ∷ []) []
@@ -48,9 +45,3 @@ module _ (q : ℕ → Bool) (f : ℕ → ℕ) (members : List ℕ) where
         content = ap (λ (j : ℕ). take j (set l n v)) (add-zero n) ∙ take-set-le n l n v (le_refl n) ∙ G.content ∙ ap (λ (xs : List ℕ). map f xs) (sym kept);
         low = omega (arith, G.low);
       }
-
-  pub gather_end : {l : List ℕ} {n k : ℕ} → Gathering l n k → k ≡ length members
-      → (n ≡ length (keep q members)) × (take n l ≡ map f (keep q members)) × (n ≤ length members)
-  gather_end {l} {n} {k} G h =
-      let all : take k members ≡ members = take_all k members (le_of_eq (sym h)) in
-      (G.count ∙ ap (λ (xs : List ℕ). length (keep q xs)) all, G.content ∙ ap (λ (xs : List ℕ). map f (keep q xs)) all, omega (arith, G.low))

@@ -1,8 +1,8 @@
 // A ruling as other rulings meet it.
-ghost use Rattle.std.specs.Prelude.{◌≡◌, true, ◌+◌, ◌-◌, ◌<◌, ◌^◌, length, get_or};
+ghost use Rattle.std.specs.Prelude.{◌≡◌, true, ◌+◌, ◌<◌, ◌^◌, length, get_or};
 ghost use Rattle.meeting.specs.Chosen as Chosen;
 ghost use Rattle.meeting.specs.Segments.{segment_of, ruling, opposite, span_holds, joins_end};
-ghost use Rattle.rects.specs.Rects.{rect_at, distance};
+ghost use Rattle.rects.specs.Rects.{rect_at};
 ghost use Rattle.rects.specs.Steps.{Inside};
 ghost use Rattle.meeting.specs.Steps.{Given};
 
@@ -17,6 +17,7 @@ pub struct Segment {
     pub centre2: u32,
 }
 
+// A ruling of a direction, 0 for horizontal: a number, since C's lists hold it.
 fn segment_of(r: rects::Rect, direction: u32) -> Segment
     requires { (r.x0 + r.x1 < 2 ^ 32) × (r.y0 + r.y1 < 2 ^ 32) }
     ensures { result ≡ segment_of r direction }

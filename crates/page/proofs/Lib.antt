@@ -1,3 +1,2 @@
--- Why the guard's number is that of the first missed question; lists that are lent from a bundle and given back.
-mod Firsts
-pub mod Bundle
+-- What the proofs of the crates above say of a page's struct.
+pub mod Fields

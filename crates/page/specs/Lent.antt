@@ -1,13 +1,11 @@
 -- The lists that `detect` is lent, by name.
 use Rattle.std.specs.Prelude.{Bool, ◌&&◌, List, [], ℕ, ◌+◌, ◌*◌, leb, Float, length, get_or}
-use Rattle.std.specs.Borrow.{MutBor}
 use Rattle.lists.specs.Lists.{every_below}
 use Rattle.layout.specs.Sides.{raster_fits}
-use Rattle.finding_lists.specs.Columns.{Columns}
-
--- List k of a bundle of lent lists; empty where it has no such list.
-abbrev pub list_at : {A : Type 0} → ℕ → List (MutBor (List A)) → List A
-list_at k bundle = (get_or bundle k (record { ref_ptr = (0, 0); ghost_name = 0; now = [] })).now
+use Rattle.finding_lists.specs.declared.lent.LentFindings.{LentFindings}
+use Rattle.finding_lists.specs.Columns.{Columns, columns_of}
+use Rattle.page.specs.declared.lent.LentRules.{LentRules}
+use Rattle.page.specs.declared.lent.LentMarks.{LentMarks}
 
 -- Of the rulings, with the sets of pieces, and of the tables, with the sets of printed rulings; the work lists have one entry a piece.
 pub record RuleLists : Type 0 where
@@ -52,6 +50,16 @@ pub record Lent : Type 0 where
   pub rules : RuleLists
   pub marks : MarkLists
   pub found : Columns
+
+-- What the lists hold that are lent.
+abbrev pub rules_of : LentRules → RuleLists
+rules_of l = record { levelled = l.levelled.now; rects = l.rects.now; directions = l.directions.now; contrasts = l.contrasts.now; printed = l.printed.now; faint = l.faint.now; piece_members = l.piece_members.now; piece_ends = l.piece_ends.now; bounds = l.bounds.now; rows = l.rows.now; columns = l.columns.now; rulings = l.rulings.now; shares = l.shares.now; free = l.free.now; printed_members = l.printed_members.now; printed_ends = l.printed_ends.now; numbers = l.numbers.now; parents = l.parents.now; listed = l.listed.now; listed_ends = l.listed_ends.now; order = l.order.now; keys = l.keys.now }
+
+abbrev pub marks_of : LentMarks → MarkLists
+marks_of l = record { boxes = l.boxes.now; marks = l.marks.now; coverages = l.coverages.now; reading = l.reading.now; members = l.members.now; ends = l.ends.now; numbers = l.numbers.now; parents = l.parents.now; order = l.order.now; keys = l.keys.now }
+
+abbrev pub lent : LentRules → LentMarks → LentFindings → Lent
+lent rules marks found = record { rules = rules_of rules; marks = marks_of marks; found = columns_of found }
 
 -- Question 14: the levelled raster is exactly width × height; there is room for as many rulings and tables as pieces, as many boxes as glyph boxes,
 -- as many findings as both together; each index, member or work list has one entry a piece, or a glyph box.

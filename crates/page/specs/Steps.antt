@@ -1,8 +1,9 @@
--- What question 14 shows of the lent lists, as plain facts, and what is kept of a bundle; none of it is needed to read the call's contract.
-use Rattle.std.specs.Prelude.{◌≡◌, List, ℕ, ◌+◌, ◌*◌, ◌≤◌, length}
-use Rattle.std.specs.Borrow.{MutBor}
+-- What question 14 shows of the lent lists, as plain facts, and that a struct of them is what it was; none of it is needed to read the call's contract.
+use Rattle.std.specs.Prelude.{◌≡◌, ℕ, ◌+◌, ◌*◌, ◌≤◌, length}
 use Rattle.finding_lists.specs.Steps.{Roomy}
-use Rattle.page.specs.Lent.{list_at, RuleLists, MarkLists, Lent}
+use Rattle.page.specs.declared.lent.LentRules.{LentRules}
+use Rattle.page.specs.declared.lent.LentMarks.{LentMarks}
+use Rattle.page.specs.Lent.{RuleLists, MarkLists, Lent}
 
 -- The lists have room for n rulings and as many tables.
 pub record RuleRoom (w h n : ℕ) (l : RuleLists) : Type 0 where
@@ -48,11 +49,39 @@ pub record Room (w h n m : ℕ) (l : Lent) : Type 0 where
   pub marks : MarkRoom m l.marks
   pub found : Roomy (n + m) l.found
 
--- Only list k may have changed, and it is as long as it was.
-pub record Only {A : Type 0} (k : ℕ) (bundle bundle' : List (MutBor (List A))) : Type 0 where
-  pub others : (j : ℕ) → (j ≡ k → ⊥) → list_at j bundle' ≡ list_at j bundle
-  pub long : length (list_at k bundle') ≡ length (list_at k bundle)
+-- Each field is the list that it was.
+pub record SameRules (l l' : LentRules) : Type 0 where
+  pub levelled : l'.levelled.ghost_name ≡ l.levelled.ghost_name
+  pub rects : l'.rects.ghost_name ≡ l.rects.ghost_name
+  pub directions : l'.directions.ghost_name ≡ l.directions.ghost_name
+  pub contrasts : l'.contrasts.ghost_name ≡ l.contrasts.ghost_name
+  pub printed : l'.printed.ghost_name ≡ l.printed.ghost_name
+  pub faint : l'.faint.ghost_name ≡ l.faint.ghost_name
+  pub piece_members : l'.piece_members.ghost_name ≡ l.piece_members.ghost_name
+  pub piece_ends : l'.piece_ends.ghost_name ≡ l.piece_ends.ghost_name
+  pub bounds : l'.bounds.ghost_name ≡ l.bounds.ghost_name
+  pub rows : l'.rows.ghost_name ≡ l.rows.ghost_name
+  pub columns : l'.columns.ghost_name ≡ l.columns.ghost_name
+  pub rulings : l'.rulings.ghost_name ≡ l.rulings.ghost_name
+  pub shares : l'.shares.ghost_name ≡ l.shares.ghost_name
+  pub free : l'.free.ghost_name ≡ l.free.ghost_name
+  pub printed_members : l'.printed_members.ghost_name ≡ l.printed_members.ghost_name
+  pub printed_ends : l'.printed_ends.ghost_name ≡ l.printed_ends.ghost_name
+  pub numbers : l'.numbers.ghost_name ≡ l.numbers.ghost_name
+  pub parents : l'.parents.ghost_name ≡ l.parents.ghost_name
+  pub listed : l'.listed.ghost_name ≡ l.listed.ghost_name
+  pub listed_ends : l'.listed_ends.ghost_name ≡ l.listed_ends.ghost_name
+  pub order : l'.order.ghost_name ≡ l.order.ghost_name
+  pub keys : l'.keys.ghost_name ≡ l.keys.ghost_name
 
--- Every list is as it was.
-pub record Kept {A : Type 0} (bundle bundle' : List (MutBor (List A))) : Type 0 where
-  pub each : (j : ℕ) → list_at j bundle' ≡ list_at j bundle
+pub record SameMarks (l l' : LentMarks) : Type 0 where
+  pub boxes : l'.boxes.ghost_name ≡ l.boxes.ghost_name
+  pub marks : l'.marks.ghost_name ≡ l.marks.ghost_name
+  pub coverages : l'.coverages.ghost_name ≡ l.coverages.ghost_name
+  pub reading : l'.reading.ghost_name ≡ l.reading.ghost_name
+  pub members : l'.members.ghost_name ≡ l.members.ghost_name
+  pub ends : l'.ends.ghost_name ≡ l.ends.ghost_name
+  pub numbers : l'.numbers.ghost_name ≡ l.numbers.ghost_name
+  pub parents : l'.parents.ghost_name ≡ l.parents.ghost_name
+  pub order : l'.order.ghost_name ≡ l.order.ghost_name
+  pub keys : l'.keys.ghost_name ≡ l.keys.ghost_name

@@ -1,10 +1,12 @@
 // What `detect` returns.
 ghost use Rattle.std.specs.Prelude.{◌≡◌, cond};
+ghost use Rattle.questions.specs.Missed.{number_of};
 ghost use Rattle.page.specs.Answer.{no_counts, answer_of, accepted, refusal};
 
 use crate::counts::Counts;
+use questions::Missed;
 
-// The number of the first missed question, 0 for none; then the counts, all 0 where one is missed. Of pieces there are as many sets as
+// C's struct: the number of the first missed question, 0 for none; then the counts, all 0 where one is missed. Of pieces there are as many sets as
 // rulings.
 #[repr(C)]
 #[derive(Clone, Copy)]
@@ -57,20 +59,19 @@ fn counted(number: u32, n: Counts, findings: usize) -> Answer
     }
 }
 
-pub fn refused(number: u32) -> Answer
-    ensures { result ≡ refusal number }
+pub fn refused(question: Missed) -> Answer
+    ensures { result ≡ refusal (number_of question) }
 {
-    counted(number, nothing(), 0)
+    counted(question.number(), nothing(), 0)
 }
 
 // Question 15: is every evidence number finite?
 pub fn answered(n: Counts, findings: usize, finite: bool) -> Answer
     ensures { result ≡ cond finite (accepted n findings) (refusal 15) }
 {
-    let none = nothing();
     if finite {
         counted(0, n, findings)
     } else {
-        counted(15, none, 0)
+        refused(Missed::Evidence)
     }
 }

@@ -1,86 +1,85 @@
 // The questions that `detect` puts to a page, in document 01's order.
-ghost use Rattle.std.specs.Prelude.{◌≡◌, cond, [], ◌∷◌, ◌++◌, eqb};
+ghost use Rattle.std.specs.Prelude.{◌≡◌, true};
 ghost use Rattle.questions.specs.Questions.{first_missed};
-ghost use Rattle.params.specs.Settings.{validate_questions, fusion_questions, free_rules_questions};
-ghost use Rattle.page.specs.Questions.{given_questions};
+ghost use Rattle.questions.specs.Missed.{number_in};
+ghost use Rattle.layout.specs.Sides.{sides_fit};
+ghost use Rattle.page.specs.Lent.{lent};
+ghost use Rattle.page.specs.Questions.{rasters_long, given_of_scan, given_of_lists, given_of_settings, given_questions, first_questions};
 
-use layout::sides::Sides;
+use crate::given::Page;
+use crate::lent::{LentMarks, LentRules};
+use crate::room;
+use finding_lists::lent::LentFindings;
+use layout::sides;
+use layout::tables::Shears;
 use params::settings::{FusionParams, RulingsParams};
+use questions::{Missed, ask};
 
-// The number of one question, 0 where its answer is yes.
-fn asked(number: u32, yes: bool) -> u32
-    ensures { result ≡ first_missed ((number, yes) ∷ []) }
+// Question 3, of the rasters.
+fn rasters_long(page: &Page) -> bool
+    requires { sides_fit page.now.sides ≡ true }
+    ensures { result ≡ rasters_long page.now }
 {
-    if yes { 0 } else { number }
+    let s = page.sides;
+    sides::raster_fits(s.pw, s.ph, page.gray.len()) & sides::raster_fits(s.w, s.h, page.ink.len())
 }
 
-// The first of two numbers, unless it is 0.
-fn first(a: u32, b: u32) -> u32
-    ensures { result ≡ cond (eqb a 0) b a }
+// Questions 1 and 2.
+fn missed_by_scan(page: &Page) -> Result<(), Missed>
+    ensures { number_in result ≡ first_missed (given_of_scan page.now) }
 {
-    if a == 0 { b } else { a }
+    ask(sides::sides_fit(page.sides), Missed::Sides)?;
+    params::scan::missed_by_scan(page.dpi, page.xheight)
+}
+
+// Questions 3 to 6.
+fn missed_by_lists(page: &Page) -> Result<(), Missed>
+    requires { sides_fit page.now.sides ≡ true }
+    ensures { number_in result ≡ first_missed (given_of_lists page.now) }
+{
+    let s = page.sides;
+    let shears = Shears {
+        sides: s,
+        shear: page.shear,
+        shear_x: page.shear_x,
+    };
+    let shears_fit = shears.tables_fit();
+    let counted = rects::count_fits(page.pieces, 4096) & rects::count_fits(page.glyphs, 16384);
+    let inside = rects::all_inside(page.pieces, s.w, s.h)
+        & rects::all_inside(page.glyphs, s.w, s.h);
+    ask(rasters_long(page) & shears.tables_long(), Missed::Lengths)?;
+    ask(shears_fit, Missed::Shears)?;
+    ask(counted, Missed::Counts)?;
+    ask(inside, Missed::Rectangles)
 }
 
 // Questions 7 to 13.
-fn missed_by_settings(p: RulingsParams, f: FusionParams) -> u32
-    ensures { result ≡ first_missed (validate_questions p ++ fusion_questions f ++ free_rules_questions p) }
+fn missed_by_settings(p: RulingsParams, f: FusionParams) -> Result<(), Missed>
+    ensures { number_in result ≡ first_missed (given_of_settings p f) }
 {
-    let settings = params::validate::validate(p);
-    let caps = params::validate::missed_by_fusion(f);
-    let free = params::validate::missed_by_free_rules(p);
-    first(settings, first(caps, free))
+    params::validate::validate(p)?;
+    params::validate::missed_by_fusion(f)?;
+    params::validate::missed_by_free_rules(p)
 }
 
-// Questions 1 to 13.
-// Numbers and no error type: C gets them as they are.
-pub fn missed_by_given(
-    sides: Sides,
-    dpi: u16,
-    xheight: f64,
-    p: RulingsParams,
-    f: FusionParams,
-    gray: &[u8],
-    ink: &[u8],
-    shear: &[i32],
-    shear_x: &[i32],
-    pieces: &[u32],
-    glyphs: &[u32],
-) -> u32
-    ensures { result ≡ first_missed (given_questions (record {
-      sides = sides;
-      dpi = dpi;
-      xheight = xheight;
-      settings = p;
-      caps = f;
-      gray = gray.now;
-      ink = ink.now;
-      shear = shear.now;
-      shear_x = shear_x.now;
-      pieces = pieces.now;
-      glyphs = glyphs.now;
-    })) }
+// Questions 1 to 13, about the page alone.
+fn missed_by_given(page: &Page) -> Result<(), Missed>
+    ensures { number_in result ≡ first_missed (given_questions page.now) }
 {
-    if !layout::sides::sides_fit(sides) {
-        return 1;
-    }
-    let grey = layout::sides::raster_fits(sides.pw, sides.ph, gray.len());
-    let inked = layout::sides::raster_fits(sides.w, sides.h, ink.len());
-    let long = layout::tables::tables_long(sides, shear, shear_x);
-    let fit = layout::tables::tables_fit(sides, shear, shear_x);
-    let counted = rects::count_fits(pieces, 4096) & rects::count_fits(glyphs, 16384);
-    let inside = rects::all_inside(pieces, sides.w, sides.h)
-        & rects::all_inside(glyphs, sides.w, sides.h);
-    let scan = params::scan::missed_by_scan(dpi, xheight);
-    let rasters = asked(3, grey & inked & long);
-    let tables = asked(4, fit);
-    let lists = asked(5, counted);
-    let places = asked(6, inside);
-    let settings = missed_by_settings(p, f);
-    first(
-        scan,
-        first(
-            rasters,
-            first(tables, first(lists, first(places, settings))),
-        ),
-    )
+    missed_by_scan(page)?;
+    missed_by_lists(page)?;
+    missed_by_settings(page.settings, page.caps)
+}
+
+// Questions 1 to 14.
+pub fn missed(
+    page: &Page,
+    rules: &LentRules,
+    marks: &LentMarks,
+    found: &LentFindings,
+) -> Result<(), Missed>
+    ensures { number_in result ≡ first_missed (first_questions page.now (lent rules.now marks.now found.now)) }
+{
+    missed_by_given(page)?;
+    ask(room::has_room(page, rules, marks, found), Missed::Room)
 }

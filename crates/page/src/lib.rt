@@ -3,5 +3,7 @@
 
 pub mod answer;
 pub mod counts;
+pub mod given;
 pub mod guard;
-pub mod room;
+pub mod lent;
+mod room;

@@ -1,132 +1,100 @@
-// Question 14: has every lent list its room? Given how many entries each has.
-ghost use Rattle.std.specs.Prelude.{◌≡◌, ◌&&◌, ◌*◌, ◌<◌, ◌^◌, leb};
+// Question 14: has every lent list its room?
+ghost use Rattle.std.specs.Prelude.{◌≡◌, ◌*◌, ◌<◌, ◌^◌, true};
+ghost use Rattle.rects.specs.Rects.{count};
+ghost use Rattle.layout.specs.Sides.{sides_fit};
+ghost use Rattle.finding_lists.specs.Columns.{columns_of};
+ghost use Rattle.page.specs.Lent.{rules_of, marks_of, lent, rulings_fit, tables_fit, boxes_fit, findings_fit, work_fits, has_room};
+
+use crate::given::Page;
+use crate::lent::{LentMarks, LentRules};
+use finding_lists::lent::LentFindings;
 
 // Of n rulings, with the sets of pieces.
-pub fn rulings_fit(
-    n: usize,
-    rects: usize,
-    directions: usize,
-    contrasts: usize,
-    printed: usize,
-    faint: usize,
-    members: usize,
-    ends: usize,
-) -> bool
+fn rulings_fit(n: usize, l: &LentRules) -> bool
     requires { 4 * n < 2 ^ 64 }
-    ensures { result ≡ leb (4 * n) rects && leb n directions && leb n contrasts && leb n printed && leb n faint && leb n members && leb n ends }
+    ensures { result ≡ rulings_fit n (rules_of l.now) }
 {
-    (4 * n <= rects)
-        & (n <= directions)
-        & (n <= contrasts)
-        & (n <= printed)
-        & (n <= faint)
-        & (n <= members)
-        & (n <= ends)
+    (4 * n <= l.rects.len())
+        & (n <= l.directions.len())
+        & (n <= l.contrasts.len())
+        & (n <= l.printed.len())
+        & (n <= l.faint.len())
+        & (n <= l.piece_members.len())
+        & (n <= l.piece_ends.len())
 }
 
 // Of n tables, with the sets of printed rulings and the free list.
-pub fn tables_fit(
-    n: usize,
-    bounds: usize,
-    rows: usize,
-    columns: usize,
-    rulings: usize,
-    shares: usize,
-    free: usize,
-    members: usize,
-    ends: usize,
-    numbers: usize,
-) -> bool
+fn tables_fit(n: usize, l: &LentRules) -> bool
     requires { 4 * n < 2 ^ 64 }
-    ensures { result ≡ leb (4 * n) bounds && leb n rows && leb n columns && leb n rulings && leb n shares && leb n free && leb n members && leb n ends && leb n numbers }
+    ensures { result ≡ tables_fit n (rules_of l.now) }
 {
-    (4 * n <= bounds)
-        & (n <= rows)
-        & (n <= columns)
-        & (n <= rulings)
-        & (n <= shares)
-        & (n <= free)
-        & (n <= members)
-        & (n <= ends)
-        & (n <= numbers)
+    (4 * n <= l.bounds.len())
+        & (n <= l.rows.len())
+        & (n <= l.columns.len())
+        & (n <= l.rulings.len())
+        & (n <= l.shares.len())
+        & (n <= l.free.len())
+        & (n <= l.printed_members.len())
+        & (n <= l.printed_ends.len())
+        & (n <= l.numbers.len())
 }
 
 // Of m boxes, with their sets and reading orders.
-pub fn boxes_fit(
-    m: usize,
-    boxes: usize,
-    marks: usize,
-    coverages: usize,
-    reading: usize,
-    members: usize,
-    ends: usize,
-    numbers: usize,
-) -> bool
+fn boxes_fit(m: usize, l: &LentMarks) -> bool
     requires { 4 * m < 2 ^ 64 }
-    ensures { result ≡ leb (4 * m) boxes && leb m marks && leb m coverages && leb m reading && leb m members && leb m ends && leb m numbers }
+    ensures { result ≡ boxes_fit m (marks_of l.now) }
 {
-    (4 * m <= boxes)
-        & (m <= marks)
-        & (m <= coverages)
-        & (m <= reading)
-        & (m <= members)
-        & (m <= ends)
-        & (m <= numbers)
+    (4 * m <= l.boxes.len())
+        & (m <= l.marks.len())
+        & (m <= l.coverages.len())
+        & (m <= l.reading.len())
+        & (m <= l.members.len())
+        & (m <= l.ends.len())
+        & (m <= l.numbers.len())
 }
 
-// Of n findings: rectangles, kind and three facts.
-pub fn facts_fit(n: usize, rects: usize, kind: usize, a: usize, b: usize, c: usize) -> bool
+// Of n findings: rectangles, kind and three facts, log odds, two evidences, a fold's length.
+fn findings_fit(n: usize, l: &LentFindings) -> bool
     requires { 4 * n < 2 ^ 64 }
-    ensures { result ≡ leb (4 * n) rects && (leb n kind && leb n a && leb n b && leb n c) }
+    ensures { result ≡ findings_fit n (columns_of l.now) }
 {
-    (4 * n <= rects) & ((n <= kind) & (n <= a) & (n <= b) & (n <= c))
-}
-
-// Of n findings: log odds, two evidences, a fold's length.
-pub fn scores_fit(
-    n: usize,
-    log_odds: usize,
-    value: usize,
-    threshold: usize,
-    llr: usize,
-    second_value: usize,
-    second_threshold: usize,
-    second_llr: usize,
-    length: usize,
-) -> bool
-    ensures { result ≡ leb n log_odds && leb n value && leb n threshold && leb n llr && leb n second_value && leb n second_threshold && leb n second_llr && leb n length }
-{
-    (n <= log_odds)
-        & (n <= value)
-        & (n <= threshold)
-        & (n <= llr)
-        & (n <= second_value)
-        & (n <= second_threshold)
-        & (n <= second_llr)
-        & (n <= length)
+    let facts = (n <= l.kinds.len()) & (n <= l.a.len()) & (n <= l.b.len()) & (n <= l.c.len());
+    let scores = (n <= l.log_odds.len())
+        & (n <= l.first_values.len())
+        & (n <= l.first_thresholds.len())
+        & (n <= l.first_llrs.len())
+        & (n <= l.second_values.len())
+        & (n <= l.second_thresholds.len())
+        & (n <= l.second_llrs.len())
+        & (n <= l.lengths.len());
+    (4 * n <= l.rects.len()) & facts & scores
 }
 
 // Of the work lists, for n pieces and m glyph boxes.
-pub fn work_fits(
-    n: usize,
-    m: usize,
-    parents: usize,
-    listed: usize,
-    listed_ends: usize,
-    order: usize,
-    keys: usize,
-    box_parents: usize,
-    box_order: usize,
-    box_keys: usize,
-) -> bool
-    ensures { result ≡ leb n parents && leb n listed && leb n listed_ends && leb n order && leb n keys && leb m box_parents && leb m box_order && leb m box_keys }
+fn work_fits(n: usize, m: usize, l: &LentRules, k: &LentMarks) -> bool
+    ensures { result ≡ work_fits n m (rules_of l.now) (marks_of k.now) }
 {
-    (n <= parents)
-        & (n <= listed)
-        & (n <= listed_ends)
-        & (n <= order)
-        & (n <= keys)
-        & (m <= box_parents)
-        & (m <= box_order)
-        & (m <= box_keys)
+    (n <= l.parents.len())
+        & (n <= l.listed.len())
+        & (n <= l.listed_ends.len())
+        & (n <= l.order.len())
+        & (n <= l.keys.len())
+        & (m <= k.parents.len())
+        & (m <= k.order.len())
+        & (m <= k.keys.len())
+}
+
+pub fn has_room(page: &Page, rules: &LentRules, marks: &LentMarks, found: &LentFindings) -> bool
+    requires { sides_fit page.now.sides ≡ true }
+    ensures { result ≡ has_room page.now.sides.w page.now.sides.h (count page.now.pieces) (count page.now.glyphs)
+        (lent rules.now marks.now found.now) }
+{
+    let n = page.pieces.len() / 4;
+    let m = page.glyphs.len() / 4;
+    layout::sides::raster_fits(page.sides.w, page.sides.h, rules.levelled.len())
+        & rulings_fit(n, rules)
+        & tables_fit(n, rules)
+        & boxes_fit(m, marks)
+        & findings_fit(n + m, found)
+        & work_fits(n, m, rules, marks)
 }

@@ -1,5 +1,3 @@
--- Why the stages of the findings, one after the other, leave a page's findings.
-mod Steps
-mod Writing
-mod Composed
-mod Kept
+-- Why the findings that are left are the page's.
+pub mod Writing
+pub mod Making

@@ -1,31 +1,14 @@
--- The lists that the findings are made from, and the front part of each that holds what was found.
-use Rattle.std.specs.Prelude.{Bool, List, ℕ, ◌*◌, ◌≤◌, ℤ, Float, length, take}
-use Rattle.sets.specs.Listing.{members_of}
-use Rattle.layout.specs.declared.sides.Sides.{Sides}
-use Rattle.params.specs.declared.settings.RulingsParams.{RulingsParams}
+-- What making the findings of a page asks and leaves; none of it is needed to read the call's contract.
+use Rattle.std.specs.Prelude.{◌≡◌, Bool, List, ◌++◌, ℕ, ◌*◌, ◌≤◌, length}
+use Rattle.rects.specs.Rects.{count}
 use Rattle.finding_lists.specs.Columns.{Columns}
-use Rattle.findings.specs.Made.{Scan, RulingLists, TableLists, BoxLists}
-use Rattle.findings.specs.Steps.{Mapping, AllGiven, TablesGiven, NumbersGiven, GridsGiven, FindRoom, PageFound}
+use Rattle.findings.specs.Made.{free_count_of, first_findings, grid_findings}
+use Rattle.findings.specs.Steps.{first_keys, grid_keys_of, Mapping, AllGiven, TablesGiven, NumbersGiven, GridsGiven, FindRoom, WriteRoom, AllFound, PageFound}
+use Rattle.grid_findings.specs.Boxes.{sets_of}
 use Rattle.page.specs.declared.counts.Counts.{Counts}
-
-pub record Sources : Type 0 where
-  pub rects : List ℕ
-  pub directions : List ℕ
-  pub contrasts : List Float
-  pub printed : List ℕ
-  pub faint : List ℕ
-  pub bounds : List ℕ
-  pub rows : List ℕ
-  pub columns : List ℕ
-  pub rulings : List ℕ
-  pub shares : List Float
-  pub free : List ℕ
-  pub boxes : List ℕ
-  pub marks : List ℕ
-  pub coverages : List Float
-  pub members : List ℕ
-  pub ends : List ℕ
-  pub numbers : List ℕ
+use Rattle.page.specs.Page.{Page}
+use Rattle.page.specs.Lent.{RuleLists, MarkLists}
+use Rattle.page_findings.specs.Sources.{Sources, boxes_of, Lists, sources}
 
 -- The work lists.
 pub record Work : Type 0 where
@@ -38,71 +21,78 @@ pub record Work : Type 0 where
   pub ranks : List ℕ
   pub grid_ranks : List ℕ
 
-module _ (n : Counts) (s : Sources) where
-  -- Each list holds what was found.
-  pub record Long : Type 0 where
-    pub rects : 4 * n.rulings ≤ length s.rects
-    pub directions : n.rulings ≤ length s.directions
-    pub contrasts : n.rulings ≤ length s.contrasts
-    pub printed : n.printed ≤ length s.printed
-    pub faint : n.faint ≤ length s.faint
-    pub bounds : 4 * n.tables ≤ length s.bounds
-    pub rows : n.tables ≤ length s.rows
-    pub columns : n.tables ≤ length s.columns
-    pub rulings : n.tables ≤ length s.rulings
-    pub shares : n.tables ≤ length s.shares
-    pub free : n.free ≤ length s.free
-    pub boxes : 4 * n.boxes ≤ length s.boxes
-    pub marks : n.boxes ≤ length s.marks
-    pub coverages : n.boxes ≤ length s.coverages
-    pub numbers : n.grids ≤ length s.numbers
+abbrev pub work_of : RuleLists → MarkLists → Work
+work_of r k =
+    record {
+      places = r.parents;
+      folds = r.order;
+      keys = r.keys;
+      grid_keys = k.keys;
+      order = r.listed;
+      grid_order = k.parents;
+      ranks = r.listed_ends;
+      grid_ranks = k.order;
+    }
 
-  -- The front parts, by what they are about.
-  abbrev pub ruled : RulingLists
-  ruled = record { rects = take (4 * n.rulings) s.rects; directions = take n.rulings s.directions; contrasts = take n.rulings s.contrasts }
+-- Each list holds what was found.
+pub record Long (n : Counts) (l : Lists) : Type 0 where
+  pub rects : 4 * n.rulings ≤ length l.rects
+  pub directions : n.rulings ≤ length l.directions
+  pub contrasts : n.rulings ≤ length l.contrasts
+  pub printed : n.printed ≤ length l.printed
+  pub faint : n.faint ≤ length l.faint
+  pub bounds : 4 * n.tables ≤ length l.bounds
+  pub rows : n.tables ≤ length l.rows
+  pub columns : n.tables ≤ length l.columns
+  pub rulings : n.tables ≤ length l.rulings
+  pub shares : n.tables ≤ length l.shares
+  pub free : n.free ≤ length l.free
+  pub boxes : 4 * n.boxes ≤ length l.boxes
+  pub marks : n.boxes ≤ length l.marks
+  pub coverages : n.boxes ≤ length l.coverages
+  pub numbers : n.grids ≤ length l.numbers
 
-  abbrev pub printed : List ℕ
-  printed = take n.printed s.printed
+-- What is made from is given, and there is room.
+pub record Ready (s : Sources) (w : Work) (l : Columns) : Type 0 where
+  pub mapping : Mapping s.scan.sides s.scan.shear s.scan.shear_x
+  pub rules : 1 ≤ s.scan.settings.min_free_rules
+  pub printed_given : AllGiven s.scan.sides.w s.scan.sides.h s.ruled.rects s.ruled.directions s.ruled.contrasts s.printed
+  pub faint_given : AllGiven s.scan.sides.w s.scan.sides.h s.ruled.rects s.ruled.directions s.ruled.contrasts s.faint
+  pub tables_given : TablesGiven s.scan.sides.w s.scan.sides.h s.tabled.bounds s.tabled.rows s.tabled.columns s.tabled.rulings s.tabled.shares
+  pub free_given : NumbersGiven s.printed s.free
+  pub grids_given : GridsGiven s.scan.sides.w s.scan.sides.h s.boxed.rects s.boxed.marks s.boxed.coverages (sets_of s.boxed) s.boxed.grids
+  pub room : FindRoom s.scan.settings s.dpi s.ruled.rects s.ruled.directions s.printed s.faint s.tabled.bounds s.free s.boxed.grids
+      w.places w.folds w.keys w.grid_keys w.order w.grid_order w.ranks w.grid_ranks l
 
-  abbrev pub faint : List ℕ
-  faint = take n.faint s.faint
+-- The same of the front parts of lists that hold what was found.
+pub record ReadyIn (g : Page) (n : Counts) (l : Lists) (w : Work) (c : Columns) : Type 0 where
+  pub long : Long n l
+  pub ready : Ready (sources g n l) w c
 
-  abbrev pub tabled : TableLists
-  tabled =
-      record {
-        bounds = take (4 * n.tables) s.bounds;
-        rows = take n.tables s.rows;
-        columns = take n.tables s.columns;
-        rulings = take n.tables s.rulings;
-        shares = take n.tables s.shares;
-      }
+-- The ranks of both runs are given, and how many findings the free rules make.
+pub record ReadyToWrite (s : Sources) (places folds : List ℕ) (rules : ℕ) (ranks grid_ranks : List ℕ) (l : Columns) : Type 0 where
+  pub some_rules : 1 ≤ s.scan.settings.min_free_rules
+  pub rules_given : rules ≡ free_count_of s.scan.settings places
+  pub tables_given : TablesGiven s.scan.sides.w s.scan.sides.h s.tabled.bounds s.tabled.rows s.tabled.columns s.tabled.rulings s.tabled.shares
+  pub places_given : AllGiven s.scan.sides.w s.scan.sides.h s.ruled.rects s.ruled.directions s.ruled.contrasts places
+  pub folds_given : AllGiven s.scan.sides.w s.scan.sides.h s.ruled.rects s.ruled.directions s.ruled.contrasts folds
+  pub grids_given : GridsGiven s.scan.sides.w s.scan.sides.h s.boxed.rects s.boxed.marks s.boxed.coverages (sets_of s.boxed) s.boxed.grids
+  pub room : WriteRoom s.scan.settings folds s.boxed.grids
+      (first_keys s.scan.sides s.scan.shear s.scan.shear_x s.scan.settings s.tabled.bounds s.ruled.rects places folds)
+      (grid_keys_of s.scan.sides s.scan.shear s.scan.shear_x s.boxed.rects (sets_of s.boxed) s.boxed.grids) ranks grid_ranks (count s.tabled.bounds) rules l
 
-  abbrev pub free : List ℕ
-  free = take n.free s.free
+-- All findings are stored, those of the free rules and of the folds from the places given.
+abbrev pub WroteAll : Sources → List ℕ → List ℕ → Columns → Columns → Bool → Type 0
+WroteAll s places folds l l' finite =
+    AllFound (first_findings s.scan s.dpi s.tabled s.ruled places folds ++ grid_findings s.scan (boxes_of s.boxed)) l l' finite
 
-  abbrev pub boxed : BoxLists
-  boxed =
-      record {
-        rects = take (4 * n.boxes) s.boxes;
-        marks = take n.boxes s.marks;
-        coverages = take n.boxes s.coverages;
-        set = members_of s.members s.ends n.box_sets;
-        grids = take n.grids s.numbers;
-      }
+-- What the findings leave.
+abbrev pub Left : Sources → Columns → Columns → ℕ → Bool → Type 0
+Left s l l' n finite = PageFound s.scan s.dpi s.ruled s.printed s.faint s.tabled s.free (boxes_of s.boxed) l l' n finite
 
-  -- What the core of the findings asks.
-  pub record Ready (sides : Sides) (shear shear_x : List ℤ) (p : RulingsParams) (dpi : ℕ) (w : Work) (l : Columns) : Type 0 where
-    pub long : Long
-    pub mapping : Mapping sides shear shear_x
-    pub rules : 1 ≤ p.min_free_rules
-    pub printed_given : AllGiven sides.w sides.h ruled.rects ruled.directions ruled.contrasts printed
-    pub faint_given : AllGiven sides.w sides.h ruled.rects ruled.directions ruled.contrasts faint
-    pub tables_given : TablesGiven sides.w sides.h tabled.bounds tabled.rows tabled.columns tabled.rulings tabled.shares
-    pub free_given : NumbersGiven printed free
-    pub grids_given : GridsGiven sides.w sides.h boxed.rects boxed.marks boxed.coverages boxed.set boxed.grids
-    pub room : FindRoom p dpi ruled.rects ruled.directions printed faint tabled.bounds free boxed.grids
-        w.places w.folds w.keys w.grid_keys w.order w.grid_order w.ranks w.grid_ranks l
+-- All lists but the work lists hold what they did.
+abbrev pub KeptRules : RuleLists → RuleLists → Type 0
+KeptRules r r' = r' ≡ record r { parents = r'.parents; listed = r'.listed; listed_ends = r'.listed_ends; order = r'.order; keys = r'.keys }
 
-  -- What it leaves.
-  pub record Left (scan : Scan) (dpi : ℕ) (l l' : Columns) (count : ℕ) (finite : Bool) : Type 0 where
-    pub found : PageFound scan dpi ruled printed faint tabled free boxed l l' count finite
+abbrev pub KeptMarks : MarkLists → MarkLists → Type 0
+KeptMarks k k' = k' ≡ record k { parents = k'.parents; order = k'.order; keys = k'.keys }

@@ -16,6 +16,7 @@ use Rattle.boxes.specs.declared.Answer as BoxesAnswer
 use Rattle.boxes.specs.Call as Boxes
 use Rattle.grids.specs.declared.Answer as GridsAnswer
 use Rattle.grids.specs.Call as Grids
+use Rattle.grids.specs.Lent as GridLists
 use Rattle.page.specs.declared.answer.Answer.{Answer}
 use Rattle.page.specs.Page as Page
 use Rattle.page.specs.Page.{Page}
@@ -58,7 +59,7 @@ module _ {g : Page} {l l' : Lent} {a : Answer} (D : Detect g l l' a) (z : a.numb
       let w = B.answers y in
       record { rects = both (Page.box_rects g) l.marks.boxes b.rects x.boxes w.rects; marks = both (Page.marks g) l.marks.marks b.marks x.marks w.marks; coverages = both (Page.coverages g) l.marks.coverages b.coverages x.coverages w.coverages }
 
-  pub same_grids : {q q' : Grids.Lent} {r : GridsAnswer.Answer} → Grids.Grids (for_grids g) q q' r → r.number ≡ 0 → SameGrids g l' q'
+  pub same_grids : {q q' : GridLists.Lent} {r : GridsAnswer.Answer} → Grids.Grids (for_grids g) q q' r → r.number ≡ 0 → SameGrids g l' q'
   same_grids {q} G y =
       let x = (D.answers z).marks in
       let w = G.answers y in

@@ -7,6 +7,7 @@ use Rattle.segments.specs.Call as Segments
 use Rattle.tables.specs.Call as Tables
 use Rattle.boxes.specs.Call as Boxes
 use Rattle.grids.specs.Call as Grids
+use Rattle.grids.specs.Lent as GridLists
 use Rattle.page.specs.Page as Page
 use Rattle.page.specs.Page.{Page}
 use Rattle.page.specs.Lent.{Lent}
@@ -62,7 +63,7 @@ pub record SameBoxes (g : Page) (l : Lent) (b : Boxes.Lent) : Type 0 where
   pub marks : Both (Page.marks g) l.marks.marks b.marks
   pub coverages : Both (Page.coverages g) l.marks.coverages b.coverages
 
-pub record SameGrids (g : Page) (l : Lent) (q : Grids.Lent) : Type 0 where
+pub record SameGrids (g : Page) (l : Lent) (q : GridLists.Lent) : Type 0 where
   pub members : Both (concat (Page.box_sets g)) l.marks.members q.members
   pub ends : Both (ends_from 0 (Page.box_sets g)) l.marks.ends q.ends
   pub reading : Both (Page.reading g) l.marks.reading q.reading

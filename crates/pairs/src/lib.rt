@@ -1,5 +1,5 @@
 // The closed sets that a list of pairs makes: a caller of `sets` that joins the pairs it is given, in
-// linear time.
+// linear time. n is given: it may be larger than any number of the list.
 #![tactic(auto)]
 
 ghost use Rattle.std.specs.Prelude.{◌≡◌, ◌*◌, ◌/◌, length};

@@ -18,9 +18,6 @@ abbrev pub upper_half : ℕ → ℕ
 upper_half n = n - n / 2
 
 module _ (xs counts : List ℕ) (t : Tallied xs counts) where
-  pub count_le : (v : ℕ) → v < 256 → get_or counts v 0 ≤ length xs
-  count_le v l = omega (arith, t.tally v l, keep_size_le (eqb v) xs)
-
   pub brightest : get_or counts 255 0 ≡ many (leb 255) xs
   brightest = omega (arith, t.tally 255 (omega arith), at_least 255 xs, t.bytes)
 

@@ -1,5 +1,5 @@
 -- How many entries pass a test, and the 256 counts: a count is a sum over the parts of a list, in whatever order they come.
-use mathlib.Core.Path.{◌≡◌, refl, sym, ap, ◌∙◌}
+use mathlib.Core.Path.{◌≡◌, refl, ap, ◌∙◌}
 use mathlib.Core.Bool.{Bool, true, false}
 use mathlib.Core.List.{List, [], ◌∷◌, ◌++◌}
 use Prim.Native.Nat.{ℕ, ◌+◌, ◌<◌, zero-le}
@@ -40,9 +40,6 @@ at_least_zero [] = refl
 at_least_zero (x ∷ xs) = keep_size (leb 0) x xs ∙ rw (le-leb 0 x zero-le, at_least_zero xs) (omega arith)
 
 -- ---- the counts
-
-pub counted_none : (counts : List ℕ) → Counted [] counts counts
-counted_none counts = record { grown = λ v l. sym (add-zero (get_or counts v 0)); bytes = refl }
 
 -- one more byte
 pub counted_more : (xs counts counts' : List ℕ) (p : ℕ) → p < 256 → p < length counts' → Counted xs counts counts' → Counted (xs ++ (p ∷ [])) counts (set counts' p (get_or counts' p 0 + 1))

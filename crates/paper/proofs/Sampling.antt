@@ -42,9 +42,6 @@ area_more raster w x y columns k a b c p q =
 
 -- ---- room for two areas
 
-pub room_first : (n : ℕ) (counts : List ℕ) → n ≤ 65536 → Clear counts → RoomFor n counts
-room_first n counts l clear = record { all = clear.all; each = λ v b. omega (arith, clear.each v b) }
-
 pub room_second : (raster : List ℕ) (w h : ℕ) (a : Area) (n : ℕ) (counts counts' : List ℕ) → AreaInside w h a → n ≤ 65536 → Clear counts → length counts' ≡ length counts → Counted (pixels_of raster w a) counts counts' → RoomFor n counts'
 room_second raster w h a n counts counts' inside l clear e c = record {
   all = omega (arith, clear.all);

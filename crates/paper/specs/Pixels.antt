@@ -3,6 +3,12 @@ use Rattle.std.specs.Prelude.{ℕ, ◌+◌, ◌-◌, ◌*◌, min, Bool, true, f
 use Rattle.lists.specs.Lists.{below, keep, concat}
 use Rattle.rects.specs.declared.Rect.{Rect}
 
+-- A raster: its pixels, and how many columns and rows it has.
+pub record Raster : Type 0 where
+  pub pixels : List ℕ
+  pub w : ℕ
+  pub h : ℕ
+
 -- The pixel in column x and row y.
 abbrev pub pixel : List ℕ → ℕ → ℕ → ℕ → ℕ
 pixel raster w x y = get_or raster (y * w + x) 0

@@ -2,18 +2,18 @@
 use Rattle.std.specs.Prelude.{◌≡◌, ℕ, ◌*◌, ◌≤◌, ◌+◌, ◌^◌, ◌<◌, Bool, List, map, ◌++◌, length, get_or, eqb, leb}
 use Rattle.rects.specs.Steps.{Inside}
 use Rattle.rects.specs.declared.Rect.{Rect}
-use Rattle.paper.specs.Pixels.{samples, run, beside, pixels_in}
+use Rattle.paper.specs.Pixels.{Raster, samples, run, beside, pixels_in}
 use Rattle.lists.specs.Lists.{below, keep}
 use Rattle.paper.specs.declared.areas.Strips.{Strips}
 use Rattle.paper.specs.declared.areas.Area.{Area}
 use Rattle.paper.specs.declared.areas.Areas.{Areas}
 
--- A ruling's rectangle on a picture of w columns and h rows.
-pub record OnPicture (raster : List ℕ) (w h : ℕ) (r : Rect) : Type 0 where
-  pub full : length raster ≡ w * h
-  pub narrow : w ≤ 8192
-  pub low : h ≤ 8192
-  pub inside : Inside w h r
+-- A ruling's rectangle on a raster.
+pub record OnPicture (raster : Raster) (r : Rect) : Type 0 where
+  pub full : length raster.pixels ≡ raster.w * raster.h
+  pub narrow : raster.w ≤ 8192
+  pub low : raster.h ≤ 8192
+  pub inside : Inside raster.w raster.h r
 
 -- How many entries pass a test.
 abbrev pub many : (ℕ → Bool) → List ℕ → ℕ

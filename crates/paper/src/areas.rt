@@ -44,7 +44,7 @@ fn strips_of(size: usize, a: usize, b: usize) -> Strips
     }
 }
 
-// The two areas in which the samples lie.
+// The two areas in which the samples lie. `horizontal` is what the ruling is, as `ruling_lists` has it.
 pub fn beside(w: usize, h: usize, r: Rect, horizontal: bool) -> Areas
     requires { (w ≤ 8192) × (h ≤ 8192) × Inside w h r }
     ensures { Sampled w h r horizontal result }

@@ -51,11 +51,6 @@ between_says n x y v h k = record { at_most = between_at_most n x y v h k; not_b
 pub from_zero_to_one_says : (x : Float) → from_zero_to_one x ≡ true → From0To 1 x
 from_zero_to_one_says x h = let b = both_true (le zero x) (le x float_one) h in between_says 1 x float_one one_value b.0 b.1
 
-pub from_zero_to_million_says : (x : Float) → from_zero_to_million x ≡ true → From0To 1_000_000 x
-from_zero_to_million_says x h =
-    let b = both_true (finite x && le zero x) (le x million) h in
-    between_says 1_000_000 x million million_value (both_true (finite x) (le zero x) b.0).1 b.1
-
 at_least : (x y : Float) → lt x y ≡ true → le x y ≡ true
 unfolding le
 at_least x y h = ap (λ (b : Bool). b || eq x y) h

@@ -1,10 +1,11 @@
 -- What the settings are once their questions were answered yes, setting by setting.
 use mathlib.Core.Path.{◌≡◌}
 use Prim.Native.Nat.{◌≤◌}
-use mathlib.Core.Bool.{true, false, ◌&&◌}
-use mathlib.Core.List.{List, [], ◌∷◌, ◌++◌}
+use mathlib.Core.Bool.{true, false}
+use mathlib.Core.List.{List, ◌++◌}
 use lib.Dec.{leb}
 use lib.Ieee.{lt, le}
+use Rattle.std.proofs.Common.{rules, tests}
 use borrow.Author.Tests.{leb-true}
 use Rattle.math.specs.Constants.{zero}
 use Rattle.math.proofs.Bound.{AtMost}
@@ -13,10 +14,10 @@ use Rattle.questions.proofs.FirstMissed.{AllYes, all_yes}
 use Rattle.params.specs.declared.settings.RulingsParams.{RulingsParams}
 use Rattle.params.specs.declared.settings.FusionParams.{FusionParams}
 use Rattle.params.specs.Settings.{all_of, from_zero_to_one, float_settings, length_settings, share_settings}
-use Rattle.params.specs.Settings.{floats_bounded, lengths_not_negative, box_sizes_ordered, shares_in_range, minima_in_range, caps_in_range, free_rules_counted}
-use Rattle.params.specs.Settings.{validate_questions, fusion_questions, free_rules_questions, settings_questions}
+use Rattle.params.specs.Settings.{floats_bounded, lengths_not_negative, box_sizes_ordered, shares_in_range, minima_in_range, free_rules_counted}
+use Rattle.params.specs.Settings.{validate_questions, free_rules_questions, settings_questions}
 use Rattle.params.proofs.Every.{each, both_true}
-use Rattle.params.proofs.Bounds.{From0To, bounded_says, not_negative_says, from_zero_to_one_says, from_zero_to_million_says}
+use Rattle.params.proofs.Bounds.{From0To, bounded_says, not_negative_says, from_zero_to_one_says}
 
 -- question 7
 pub record FloatsBounded (p : RulingsParams) : Type 0 where
@@ -49,34 +50,7 @@ pub record FloatsBounded (p : RulingsParams) : Type 0 where
 pub floats_say : (p : RulingsParams) → floats_bounded p ≡ true → FloatsBounded p
 unfolding floats_bounded
 floats_say p h =
-    let e = each bounded_says (float_settings p) h in
-    record {
-      merge_across_xh = e.0;
-      merge_gap_xh = e.1.0;
-      rule_min_contrast = e.1.1.0;
-      fold_min_length_in = e.1.1.1.0;
-      join_tol_xh = e.1.1.1.1.0;
-      line_cluster_xh = e.1.1.1.1.1.0;
-      table_prior = e.1.1.1.1.1.1.0;
-      table_cells_coef = e.1.1.1.1.1.1.1.0;
-      table_cells_cap = e.1.1.1.1.1.1.1.1.0;
-      table_junction_coef = e.1.1.1.1.1.1.1.1.1.0;
-      free_rules_prior = e.1.1.1.1.1.1.1.1.1.1.0;
-      free_rules_coef = e.1.1.1.1.1.1.1.1.1.1.1.0;
-      free_rules_cap = e.1.1.1.1.1.1.1.1.1.1.1.1.0;
-      box_min_xh = e.1.1.1.1.1.1.1.1.1.1.1.1.1.0;
-      box_min_in = e.1.1.1.1.1.1.1.1.1.1.1.1.1.1.0;
-      box_max_xh = e.1.1.1.1.1.1.1.1.1.1.1.1.1.1.1.0;
-      box_overshoot_fraction = e.1.1.1.1.1.1.1.1.1.1.1.1.1.1.1.1.0;
-      box_aspect_tol = e.1.1.1.1.1.1.1.1.1.1.1.1.1.1.1.1.1.0;
-      box_edge_coverage = e.1.1.1.1.1.1.1.1.1.1.1.1.1.1.1.1.1.1.0;
-      box_max_inner_ink = e.1.1.1.1.1.1.1.1.1.1.1.1.1.1.1.1.1.1.1.0;
-      box_checked_ink = e.1.1.1.1.1.1.1.1.1.1.1.1.1.1.1.1.1.1.1.1.0;
-      grid_align_xh = e.1.1.1.1.1.1.1.1.1.1.1.1.1.1.1.1.1.1.1.1.1.0;
-      grid_prior = e.1.1.1.1.1.1.1.1.1.1.1.1.1.1.1.1.1.1.1.1.1.1.0;
-      grid_coef = e.1.1.1.1.1.1.1.1.1.1.1.1.1.1.1.1.1.1.1.1.1.1.1.0;
-      grid_cap = e.1.1.1.1.1.1.1.1.1.1.1.1.1.1.1.1.1.1.1.1.1.1.1.1.0;
-    }
+    let e = each bounded_says (float_settings p) h in search rules
 
 -- question 8
 pub record LengthsNotNegative (p : RulingsParams) : Type 0 where
@@ -92,17 +66,7 @@ pub record LengthsNotNegative (p : RulingsParams) : Type 0 where
 pub lengths_say : (p : RulingsParams) → lengths_not_negative p ≡ true → LengthsNotNegative p
 unfolding lengths_not_negative
 lengths_say p h =
-    let e = each not_negative_says (length_settings p) h in
-    record {
-      merge_across_xh = e.0;
-      merge_gap_xh = e.1.0;
-      join_tol_xh = e.1.1.0;
-      line_cluster_xh = e.1.1.1.0;
-      box_min_xh = e.1.1.1.1.0;
-      box_min_in = e.1.1.1.1.1.0;
-      grid_align_xh = e.1.1.1.1.1.1.0;
-      fold_min_length_in = e.1.1.1.1.1.1.1.0;
-    }
+    let e = each not_negative_says (length_settings p) h in search rules
 
 -- question 10
 pub record SharesInRange (p : RulingsParams) : Type 0 where
@@ -118,14 +82,7 @@ unfolding shares_in_range
 shares_say p h =
     let b = both_true (all_of from_zero_to_one (share_settings p)) (leb p.box_tolerance_px 3) h in
     let e = each from_zero_to_one_says (share_settings p) b.0 in
-    record {
-      box_edge_coverage = e.0;
-      box_max_inner_ink = e.1.0;
-      box_checked_ink = e.1.1.0;
-      box_aspect_tol = e.1.1.1.0;
-      box_overshoot_fraction = e.1.1.1.1.0;
-      box_tolerance_px = leb-true p.box_tolerance_px 3 b.1;
-    }
+    search (rules, tests)
 
 -- question 11
 pub record MinimaInRange (p : RulingsParams) : Type 0 where
@@ -135,27 +92,12 @@ pub record MinimaInRange (p : RulingsParams) : Type 0 where
 
 pub minima_say : (p : RulingsParams) → minima_in_range p ≡ true → MinimaInRange p
 unfolding minima_in_range
-minima_say p h =
-    let a = leb 1 p.table_min_horizontal in
-    let b = leb 1 p.table_min_vertical in
-    let outer = both_true (a && b) (leb 2 p.grid_min_boxes) h in
-    let inner = both_true a b outer.0 in
-    record {
-      table_min_horizontal = leb-true 1 p.table_min_horizontal inner.0;
-      table_min_vertical = leb-true 1 p.table_min_vertical inner.1;
-      grid_min_boxes = leb-true 2 p.grid_min_boxes outer.1;
-    }
+minima_say p h = search (rules, tests)
 
 -- question 12
 pub record CapsInRange (f : FusionParams) : Type 0 where
   pub llr_clip : From0To 1_000_000 f.llr_clip
   pub group_cap : From0To 1_000_000 f.group_cap
-
-pub caps_say : (f : FusionParams) → caps_in_range f ≡ true → CapsInRange f
-unfolding caps_in_range
-caps_say f h =
-    let e = each from_zero_to_million_says (f.llr_clip ∷ f.group_cap ∷ []) h in
-    record { llr_clip = e.0; group_cap = e.1.0 }
 
 -- question 13
 pub free_rules_say : (p : RulingsParams) → free_rules_counted p ≡ true → 1 ≤ p.min_free_rules
@@ -182,15 +124,6 @@ validate_says p later answers = record {
 }
 
 -- ---- after a guard that gave 0
-
-pub validate_passed : (p : RulingsParams) → first_missed (validate_questions p) ≡ 0 → Validated p
-validate_passed p h = validate_says p [] (all_yes (validate_questions p) tt h)
-
-pub fusion_passed : (f : FusionParams) → first_missed (fusion_questions f) ≡ 0 → CapsInRange f
-fusion_passed f h = caps_say f (all_yes (fusion_questions f) tt h).0
-
-pub free_rules_passed : (p : RulingsParams) → first_missed (free_rules_questions p) ≡ 0 → 1 ≤ p.min_free_rules
-free_rules_passed p h = free_rules_say p (all_yes (free_rules_questions p) tt h).0
 
 pub settings_passed : (p : RulingsParams) → first_missed (settings_questions p) ≡ 0 → Validated p × (1 ≤ p.min_free_rules)
 settings_passed p h =

@@ -1,11 +1,13 @@
-// Questions 7 to 13: the settings. A question is a number, 0 for none, since the C interface returns it.
+// Questions 7 to 13: the settings.
 ghost use Rattle.std.specs.Prelude.{◌≡◌};
 ghost use Rattle.questions.specs.Questions.{first_missed};
+ghost use Rattle.questions.specs.Missed.{number_in};
 ghost use Rattle.params.specs.Settings.{all_of, bounded, floats_bounded, lengths_not_negative};
 ghost use Rattle.params.specs.Settings.{shares_in_range, minima_in_range, from_zero_to_million, caps_in_range};
 ghost use Rattle.params.specs.Settings.{validate_questions, settings_questions, fusion_questions, free_rules_questions};
 
 use crate::settings::{FusionParams, RulingsParams};
+use questions::{Missed, ask};
 
 // Finite, size at most 1,000,000.
 fn bounded(x: f64) -> bool
@@ -21,6 +23,7 @@ fn all_bounded(values: &[f64]) -> bool
 }
 
 // Question 7.
+#[tactic(auto, unfolding(crate::specs::Settings::floats_bounded))]
 fn floats_bounded(p: RulingsParams) -> bool
     ensures { result ≡ floats_bounded p }
 {
@@ -85,6 +88,7 @@ fn shares_in_range(p: RulingsParams) -> bool
 }
 
 // Question 11.
+#[tactic(auto, unfolding(crate::specs::Settings::minima_in_range))]
 fn minima_in_range(p: RulingsParams) -> bool
     ensures { result ≡ minima_in_range p }
 {
@@ -92,30 +96,15 @@ fn minima_in_range(p: RulingsParams) -> bool
 }
 
 // The Rust's `RulingsParams::validate`: questions 7 to 11.
-pub fn validate(p: RulingsParams) -> u32
-    ensures { result ≡ first_missed (validate_questions p) }
+#[tactic(auto, unfolding(crate::specs::Settings::box_sizes_ordered))]
+pub fn validate(p: RulingsParams) -> Result<(), Missed>
+    ensures { number_in result ≡ first_missed (validate_questions p) }
 {
-    let floats = floats_bounded(p);
-    let lengths = lengths_not_negative(p);
-    let shares = shares_in_range(p);
-    let minima = minima_in_range(p);
-    let sizes = p.box_min_xh <= p.box_max_xh;
-    if !floats {
-        return 7;
-    }
-    if !lengths {
-        return 8;
-    }
-    if !sizes {
-        return 9;
-    }
-    if !shares {
-        return 10;
-    }
-    if !minima {
-        return 11;
-    }
-    0
+    ask(floats_bounded(p), Missed::Finite)?;
+    ask(lengths_not_negative(p), Missed::NotNegative)?;
+    ask(p.box_min_xh <= p.box_max_xh, Missed::BoxSizes)?;
+    ask(shares_in_range(p), Missed::Fractions)?;
+    ask(minima_in_range(p), Missed::Minimums)
 }
 
 // Finite, 0 to 1,000,000.
@@ -133,27 +122,24 @@ fn caps_in_range(f: FusionParams) -> bool
 }
 
 // Question 12, where `llr_clip` and `group_cap` are given.
-pub fn missed_by_fusion(f: FusionParams) -> u32
-    ensures { result ≡ first_missed (fusion_questions f) }
+pub fn missed_by_fusion(f: FusionParams) -> Result<(), Missed>
+    ensures { number_in result ≡ first_missed (fusion_questions f) }
 {
-    if caps_in_range(f) { 0 } else { 12 }
+    ask(caps_in_range(f), Missed::Caps)
 }
 
 // Question 13.
-pub fn missed_by_free_rules(p: RulingsParams) -> u32
-    ensures { result ≡ first_missed (free_rules_questions p) }
+#[tactic(auto, unfolding(crate::specs::Settings::free_rules_counted))]
+pub fn missed_by_free_rules(p: RulingsParams) -> Result<(), Missed>
+    ensures { number_in result ≡ first_missed (free_rules_questions p) }
 {
-    if 1 <= p.min_free_rules { 0 } else { 13 }
+    ask(1 <= p.min_free_rules, Missed::FreeRules)
 }
 
 // Questions 7 to 11 and 13: what a call asks that is given the settings alone.
-pub fn missed_by_settings(p: RulingsParams) -> u32
-    ensures { result ≡ first_missed (settings_questions p) }
+pub fn missed_by_settings(p: RulingsParams) -> Result<(), Missed>
+    ensures { number_in result ≡ first_missed (settings_questions p) }
 {
-    let missed = validate(p);
-    if missed == 0 {
-        missed_by_free_rules(p)
-    } else {
-        missed
-    }
+    validate(p)?;
+    missed_by_free_rules(p)
 }

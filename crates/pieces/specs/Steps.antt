@@ -16,7 +16,7 @@ pub record Ordered (r : Rect) : Type 0 where
 abbrev pub AllOrdered : List ℕ → Type 0
 AllOrdered rects = (k : ℕ) → k < count rects → Ordered (rect_at rects k)
 
--- Doubled centre, start and end, taken as if the direction were the given one.
+-- Doubled centre, start and end, taken as if the piece were horizontal or not.
 abbrev pub centre_in : Bool → Rect → ℕ
 centre_in h r = cond h (r.y0 + r.y1) (r.x0 + r.x1)
 

@@ -18,36 +18,38 @@ pub fn is_horizontal(r: Rect) -> bool
     r.y1 - r.y0 <= r.x1 - r.x0
 }
 
-// The doubled centre, the start and the end, taken as if the direction were the given one.
-fn centre2(r: Rect, direction: bool) -> u64
-    ensures { (result ≡ centre_in direction r) × (result < 2 ^ 33) }
+// The doubled centre, the start and the end, taken as if the piece were horizontal or not. A bool and no enum of two
+// directions: it is what a ruling is, as the Rust has it, and what a test finds; an enum would be made from it and be
+// turned back for keys and lists.
+fn centre2(r: Rect, horizontal: bool) -> u64
+    ensures { (result ≡ centre_in horizontal r) × (result < 2 ^ 33) }
 {
-    if direction {
+    if horizontal {
         u64::from(r.y0) + u64::from(r.y1)
     } else {
         u64::from(r.x0) + u64::from(r.x1)
     }
 }
 
-fn start(r: Rect, direction: bool) -> u64
-    ensures { (result ≡ start_in direction r) × (result < 2 ^ 32) }
+fn start(r: Rect, horizontal: bool) -> u64
+    ensures { (result ≡ start_in horizontal r) × (result < 2 ^ 32) }
 {
-    u64::from(if direction { r.x0 } else { r.y0 })
+    u64::from(if horizontal { r.x0 } else { r.y0 })
 }
 
-fn end(r: Rect, direction: bool) -> u64
-    ensures { (result ≡ end_in direction r) × (result < 2 ^ 32) }
+fn end(r: Rect, horizontal: bool) -> u64
+    ensures { (result ≡ end_in horizontal r) × (result < 2 ^ 32) }
 {
-    u64::from(if direction { r.x1 } else { r.y1 })
+    u64::from(if horizontal { r.x1 } else { r.y1 })
 }
 
 // The doubled centre of piece j of a list, of which only the numbers that are asked for are read.
-fn centre2_at(pieces: &[u32], j: usize, direction: bool) -> u64
+fn centre2_at(pieces: &[u32], j: usize, horizontal: bool) -> u64
     requires { 4 * j + 4 ≤ length pieces.now }
-    ensures { (result ≡ centre_in direction (rect_at pieces.now j)) × (result < 2 ^ 33) }
+    ensures { (result ≡ centre_in horizontal (rect_at pieces.now j)) × (result < 2 ^ 33) }
 {
     let at = 4 * j;
-    if direction {
+    if horizontal {
         u64::from(pieces[at + 1]) + u64::from(pieces[at + 3])
     } else {
         u64::from(pieces[at]) + u64::from(pieces[at + 2])
@@ -66,16 +68,16 @@ fn key_of(r: Rect) -> u64
     requires { Ordered r }
     ensures { KeyOf r result }
 {
-    let direction = is_horizontal(r);
-    start(r, direction) + sorted::offset(direction)
+    let horizontal = is_horizontal(r);
+    start(r, horizontal) + sorted::offset(horizontal)
 }
 
 // The last key of those that a piece may reach over the gap behind its end.
-fn last_key(a: Rect, direction: bool, gap: u32) -> u64
-    ensures { (result ≡ last_key gap direction a) × (end_in direction a < 2 ^ 32) }
+fn last_key(a: Rect, horizontal: bool, gap: u32) -> u64
+    ensures { (result ≡ last_key gap horizontal a) × (end_in horizontal a < 2 ^ 32) }
 {
     let past = u64::from(gap) + 1;
-    end(a, direction) + past + sorted::offset(direction)
+    end(a, horizontal) + past + sorted::offset(horizontal)
 }
 
 // Writes the key of each piece.
@@ -106,16 +108,16 @@ fn join_near(
     parents: &mut [u32],
     i: usize,
     j: usize,
-    direction: bool,
+    horizontal: bool,
     centre: u64,
     reach: u64,
 )
     requires { Parents (count pieces.now) parents.old × (i < count pieces.now) × (j < count pieces.now) × (centre < 2 ^ 33) × (reach < 2 ^ 33) }
-    ensures { Joined (count pieces.now) parents.old i j (within reach centre (centre_in direction (rect_at pieces.now j)))
+    ensures { Joined (count pieces.now) parents.old i j (within reach centre (centre_in horizontal (rect_at pieces.now j)))
         parents.new }
 {
     if parents[i] != parents[j] {
-        if near(centre, centre2_at(pieces, j, direction), reach) {
+        if near(centre, centre2_at(pieces, j, horizontal), reach) {
             sets::join(parents, pieces.len() / 4, i, j);
         }
     }
@@ -138,16 +140,16 @@ fn join_row(
     let n = pieces.len() / 4;
     let i = order[k] as usize;
     let a = rects::rect_at(pieces, i);
-    let direction = is_horizontal(a);
-    let centre = centre2(a, direction);
+    let horizontal = is_horizontal(a);
+    let centre = centre2(a, horizontal);
     let reach = 2 * u64::from(across);
-    let last = last_key(a, direction, gap);
+    let last = last_key(a, horizontal, gap);
     for l in k + 1..n {
         let j = order[l] as usize;
         if last < keys[j] {
             return;
         }
-        join_near(pieces, parents, i, j, direction, centre, reach);
+        join_near(pieces, parents, i, j, horizontal, centre, reach);
     }
 }
 

@@ -1,12 +1,14 @@
 -- Why a run of tests that returns at the first "no" computes `first_missed`, and what is known once it gives 0.
 use Prim.Native.Nat.{ℕ, zero, suc}
-use mathlib.Core.Path.{◌≡◌, refl, subst, ◌∙◌}
+use mathlib.Core.Path.{◌≡◌, refl, sym, subst, ◌∙◌}
 use mathlib.Core.Bool.{Bool, true, false, cond, ◌&&◌}
 use mathlib.Core.List.{List, [], ◌∷◌, ◌++◌}
 use lib.Dec.{T, ltb, eqb}
 use borrow.Author.Tests.{lt-ltb, ne_eqb}
 use native.Mathlib.Omega.{arith}
+use Rattle.questions.specs.declared.Missed.{Missed}
 use Rattle.questions.specs.Questions.{Question, first_missed}
+use Rattle.questions.specs.Missed.{number_of}
 
 -- every answer is yes; the answers are read off by place
 abbrev pub AllYes : List Question → Type 0
@@ -61,3 +63,13 @@ pub in_two_parts : (ps qs : List Question) → T (numbered ps) → first_missed 
 in_two_parts [] qs t = refl
 in_two_parts ((n, true) ∷ ps) qs t = in_two_parts ps qs (others n (numbered ps) t)
 in_two_parts ((n, false) ∷ ps) qs t = simp (ne_eqb n 0 (not_zero n (numbered ps) t))
+
+-- a guard that stops in the middle: the question that is missed first among some is missed first among more
+pub stops : (m : Missed) (ps qs : List Question) → number_of m ≡ first_missed ps → number_of m ≡ first_missed (ps ++ qs)
+stops m [] qs h = grind arith
+stops m ((n, true) ∷ ps) qs h = stops m ps qs h
+stops m ((n, false) ∷ ps) qs h = h
+
+-- a guard that goes on: once some questions are answered yes, what is missed first among the rest is missed first among all
+pub goes_on : (ps qs : List Question) {m : ℕ} → T (numbered ps) → 0 ≡ first_missed ps → m ≡ first_missed qs → m ≡ first_missed (ps ++ qs)
+goes_on ps qs t z h = h ∙ sym (up_to_here ps qs (all_yes ps t (sym z)))

@@ -1,5 +1,5 @@
 -- Why reading a page leaves its answers.
 pub mod Known
-pub mod Rules
-pub mod Marks
+pub mod Ruled
+pub mod Boxed
 pub mod Listed

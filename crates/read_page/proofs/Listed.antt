@@ -16,7 +16,7 @@ use Rattle.page.specs.Lent.{RuleLists}
 use Rattle.page.specs.Steps.{RuleRoom}
 use Rattle.rects.specs.Rects.{count}
 use Rattle.read_page.proofs.Known.{Known}
-use Rattle.read_page.proofs.Rules.{Ruling}
+use Rattle.read_page.proofs.Ruled.{Ruling}
 
 pub read_still : {ss : List (List ℕ)} {m m' e e' : List ℕ} {n : ℕ} → m' ≡ m → e' ≡ e → n ≡ length ss → ReadAs ss m e n → ReadAs ss m' e' (length ss)
 read_still {ss} em ee en R = let x = sym em in let y = sym ee in transport (λ i. ReadAs ss (x i) (y i) (en i)) R

@@ -4,10 +4,12 @@ ghost use Rattle.std.proofs.lemmas.List.Edits.{sets};
 ghost use Rattle.lists.specs.Lists.{below, concat, written};
 ghost use Rattle.order.specs.Order.{sorted_indexes};
 ghost use Rattle.rects.specs.Rects.{count};
-ghost use Rattle.sets.specs.Listing.{members_of};
+ghost use Rattle.listings.specs.Listed.{set_of};
 ghost use Rattle.reading_order.specs.Reading.{reading_keys, reading_order};
 ghost use Rattle.box_widths.specs.Steps.{PassedBoxes};
 ghost use Rattle.reading_order.specs.Steps.{Indexes, SetsIn, WorkRoom};
+
+use listings::listed::Sets;
 
 // The keys of a set's boxes: y0, then x0.
 fn set_keys(rects: &[u32], set: &[u32], keys: &mut [u64])
@@ -62,24 +64,21 @@ fn read_set(
 // Writes the reading order of every set, in the places of its members.
 pub fn read_sets(
     rects: &[u32],
-    members: &[u32],
-    ends: &[u32],
-    count: usize,
+    sets: &Sets,
     reading: &mut [u32],
     order: &mut [u32],
     work: &mut [u32],
     keys: &mut [u64],
 )
-    requires { PassedBoxes rects.now × SetsIn (Rattle.rects.specs.Rects.count rects.now) (members_of members.now ends.now count) count
-        × WorkRoom (Rattle.rects.specs.Rects.count rects.now) (length order.old) (length work.old) (length keys.old)
-        × (Rattle.rects.specs.Rects.count rects.now ≤ length reading.old) }
+    requires { PassedBoxes rects.now × SetsIn (count rects.now) (set_of sets.now) sets.now.count
+        × WorkRoom (count rects.now) (length order.old) (length work.old) (length keys.old) × (count rects.now ≤ length reading.old) }
     ensures { reading.new ≡ written
-        (concat (map (λ k. reading_order rects.now (members_of members.now ends.now count k)) (below count)))
+        (concat (map (λ k. reading_order rects.now (set_of sets.now k)) (below sets.now.count)))
         reading.old }
 {
     let mut at = 0;
-    for k in 0..count {
-        let set = listings::members_of(members, ends, count, k);
+    for k in 0..sets.count {
+        let set = sets.at(k);
         read_set(rects, set, reading, at, order, work, keys);
         at += set.len();
     }

@@ -62,18 +62,6 @@ pub fn union_rect(a: Rect, b: Rect) -> Rect
     }
 }
 
-pub fn least(a: u32, b: u32) -> u32
-    ensures { result ≡ Prim.Native.Nat.min a b }
-{
-    a.min(b)
-}
-
-pub fn greatest(a: u32, b: u32) -> u32
-    ensures { result ≡ Prim.Native.Nat.max a b }
-{
-    a.max(b)
-}
-
 // Rectangle k of a number list.
 pub fn rect_at(rects: &[u32], k: usize) -> Rect
     requires { 4 * k + 4 ≤ length rects.now }

@@ -22,7 +22,7 @@ pub fn answer(rt: &impl Print, given: Given, glyphs: &[u32], ink: &[u8]) -> io::
     );
     let count = a.count.min(16);
     written::word(rt, u64::from(a.number))?;
-    written::word(rt, a.count as u64)?;
+    written::count(rt, a.count)?;
     written::wholes(rt, &rects, 4 * count)?;
     written::wholes(rt, &marks, count)?;
     written::floats(rt, &coverages, count)?;

@@ -2,9 +2,9 @@
 // raster that is given and up to four numbers, each a list. No table has more than 64 entries, and no raster
 // more than 256 bytes.
 use layout::calls;
-use layout::calls::Refused;
 use layout::page::Levelled;
-use layout::sides::Sides;
+use layout::tables::Shears;
+use questions::Missed;
 use rects::Rect;
 use std::io;
 use stored::words::Reader;
@@ -29,35 +29,30 @@ pub fn page(rt: &impl Print, reader: &mut Reader<'_>, call: Call) -> io::Result<
     let rows = reader.list(&mut shear_x, words::signed_of);
     let pixels = reader.list(&mut raster, words::byte_of);
     reader.list(&mut numbers, words::whole_of);
-    answer(
-        rt,
-        call,
+    let shears = Shears {
         sides,
-        &shear[..columns],
-        &shear_x[..rows],
-        &raster[..pixels],
-        &numbers,
-    )
+        shear: &shear[..columns],
+        shear_x: &shear_x[..rows],
+    };
+    answer(rt, call, &shears, &raster[..pixels], &numbers)
 }
 
 // The numbers are the room for a raster, a place, or a rectangle.
 fn answer(
     rt: &impl Print,
     call: Call,
-    sides: Sides,
-    shear: &[i32],
-    shear_x: &[i32],
+    shears: &Shears,
     raster: &[u8],
     numbers: &[u32; 4],
 ) -> io::Result<()> {
     match call {
         Call::LevelGray => write_raster(rt, numbers[0], |out| {
-            level_gray::level_gray(sides, raster, shear, shear_x, out)
+            level_gray::level_gray(shears, raster, out)
         })?,
         Call::Unlevel => write_raster(rt, numbers[0], |out| {
-            unlevel::unlevel(sides, raster, shear, shear_x, out)
+            unlevel::unlevel(shears, raster, out)
         })?,
-        Call::ToPage => to_page(rt, sides, shear, shear_x, Levelled(numbers[0], numbers[1]))?,
+        Call::ToPage => to_page(rt, shears, Levelled(numbers[0], numbers[1]))?,
         Call::RectToPage => {
             let r = Rect {
                 x0: numbers[0],
@@ -65,35 +60,33 @@ fn answer(
                 x1: numbers[2],
                 y1: numbers[3],
             };
-            rect_to_page(rt, sides, shear, shear_x, r)?
+            rect_to_page(rt, shears, r)?
         }
     }
     written::end(rt)
 }
 
-// Writes the number that `level` answers, and every byte of the raster of `room` bytes, which is lent to it with 7 in it.
-fn write_raster<F: FnOnce(&mut [u8]) -> u32>(rt: &impl Print, room: u32, level: F) -> io::Result<()>
+// Writes the number of the question that `level` misses, or 0, and every byte of the raster of `room` bytes, which is lent to it with 7 in it.
+fn write_raster<F: FnOnce(&mut [u8]) -> Result<(), Missed>>(
+    rt: &impl Print,
+    room: u32,
+    level: F,
+) -> io::Result<()>
     requires { F.IsAlwaysCallable level }
 {
     let mut out = [7u8; 256];
     let n = (room as usize).min(256);
-    let number = level(&mut out[..n]);
+    let number = questions::number(level(&mut out[..n]));
     written::word(rt, u64::from(number))?;
     written::bytes(rt, &out, n)
 }
 
 // Writes the number, and the place or 0 and 0.
-fn to_page(
-    rt: &impl Print,
-    sides: Sides,
-    shear: &[i32],
-    shear_x: &[i32],
-    p: Levelled,
-) -> io::Result<()> {
-    let mapped = calls::to_page(sides, shear, shear_x, p);
+fn to_page(rt: &impl Print, shears: &Shears, p: Levelled) -> io::Result<()> {
+    let mapped = calls::to_page(shears, p);
     match mapped {
         Ok(place) => write_place(rt, 0, place.0, place.1),
-        Err(Refused(number)) => write_place(rt, number, 0, 0),
+        Err(question) => write_place(rt, question.number(), 0, 0),
     }
 }
 
@@ -104,17 +97,11 @@ fn write_place(rt: &impl Print, number: u32, x: i64, y: i64) -> io::Result<()> {
 }
 
 // Writes the number, and the rectangle or four times 0.
-fn rect_to_page(
-    rt: &impl Print,
-    sides: Sides,
-    shear: &[i32],
-    shear_x: &[i32],
-    r: Rect,
-) -> io::Result<()> {
-    let mapped = calls::rect_to_page(sides, shear, shear_x, r);
+fn rect_to_page(rt: &impl Print, shears: &Shears, r: Rect) -> io::Result<()> {
+    let mapped = calls::rect_to_page(shears, r);
     match mapped {
         Ok(a) => write_area(rt, 0, &[a.x0, a.y0, a.x1, a.y1]),
-        Err(Refused(number)) => write_area(rt, number, &[0, 0, 0, 0]),
+        Err(question) => write_area(rt, question.number(), &[0, 0, 0, 0]),
     }
 }
 

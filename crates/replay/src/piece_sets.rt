@@ -18,7 +18,7 @@ fn write_rulings(
 ) -> io::Result<()> {
     let count = rulings.min(16);
     written::word(rt, u64::from(number))?;
-    written::word(rt, rulings as u64)?;
+    written::count(rt, rulings)?;
     written::wholes(rt, rects, 4 * count)?;
     written::wholes(rt, directions, count)?;
     written::floats(rt, contrasts, count)?;

@@ -18,7 +18,7 @@ fn write_tables(
 ) -> io::Result<()> {
     let count = tables.min(16);
     written::word(rt, u64::from(number))?;
-    written::word(rt, tables as u64)?;
+    written::count(rt, tables)?;
     written::wholes(rt, numbers, count)?;
     written::wholes(rt, bounds, 4 * count)?;
     written::wholes(rt, rows, count)?;
@@ -37,9 +37,9 @@ fn write_sets(
     ends: &[u32; 16],
     members: &[u32; 16],
 ) -> io::Result<()> {
-    written::word(rt, free_count as u64)?;
+    written::count(rt, free_count)?;
     written::wholes(rt, free, free_count)?;
-    written::word(rt, sets as u64)?;
+    written::count(rt, sets)?;
     written::wholes(rt, ends, sets)?;
     written::wholes(rt, members, n)?;
     written::end(rt)

@@ -27,8 +27,8 @@ pub fn read(reader: &mut Reader<'_>) -> Given {
 // Answers to `validate`: 1 where it accepts, and the number of the first missed question, which is 13 for
 // settings that it accepts and that let `min_free_rules` be 0.
 pub fn answer(rt: &impl Print, given: Given) -> io::Result<()> {
-    let accepted = params::validate::validate(given.p) == 0;
-    let number = params::validate::missed_by_settings(given.p);
+    let accepted = params::validate::validate(given.p).is_ok();
+    let number = questions::number(params::validate::missed_by_settings(given.p));
     written::word(rt, u64::from(accepted))?;
     written::word(rt, u64::from(number))?;
     written::end(rt)

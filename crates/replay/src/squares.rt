@@ -24,9 +24,9 @@ pub fn answer(rt: &impl Print, given: Given, rects: &[u32]) -> io::Result<()> {
     );
     let n = if a.number == 0 { rects.len() / 4 } else { 0 };
     written::word(rt, u64::from(a.number))?;
-    written::word(rt, a.grids as u64)?;
+    written::count(rt, a.grids)?;
     written::wholes(rt, &numbers, a.grids)?;
-    written::word(rt, a.sets as u64)?;
+    written::count(rt, a.sets)?;
     written::wholes(rt, &ends, a.sets)?;
     written::wholes(rt, &members, n)?;
     written::wholes(rt, &reading, n)?;

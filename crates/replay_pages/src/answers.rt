@@ -1,28 +1,18 @@
 // Answers to `detect`: number and counts, the levelled raster, then list after list.
 use crate::finding_rows;
 use page::answer::Answer;
+use page::given::Page;
 use small_pages::found;
 use small_pages::found::Found;
-use small_pages::given::Given;
 use std::io;
 use stored::written;
 
 // Writes what the call answers.
-pub fn answer(
-    rt: &impl Print,
-    given: Given,
-    gray: &[u8],
-    ink: &[u8],
-    shear: &[i32],
-    shear_x: &[i32],
-    pieces: &[u32],
-    glyphs: &[u32],
-    lent: u64,
-) -> io::Result<()> {
+pub fn answer(rt: &impl Print, given: &Page, lent: u64) -> io::Result<()> {
     let room = lent.min(1024) as usize;
-    let found = found::detect(given, gray, ink, shear, shear_x, pieces, glyphs, room);
+    let found = found::detect(given, room);
     let n = if found.answer.number == 0 {
-        pieces.len() / 4
+        given.pieces.len() / 4
     } else {
         0
     };
@@ -52,7 +42,7 @@ fn write_counts(rt: &impl Print, a: Answer) -> io::Result<()> {
         a.box_sets,
     ];
     for count in counts {
-        written::word(rt, count as u64)?;
+        written::count(rt, count)?;
     }
     Ok(())
 }

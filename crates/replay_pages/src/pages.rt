@@ -2,29 +2,22 @@
 // boxes, each a list, then how many bytes of the levelled raster are lent. No page has more than 64 entries in a
 // table, 16 pieces, 16 glyph boxes and 150 pixels; a spoilt list may have a few more.
 use crate::answers;
+use page::given::Page;
 use params::settings::FusionParams;
-use small_pages::given::Given;
 use std::io;
 use stored::words::Reader;
 use stored::{floats, settings, sides, words};
 
-// What a page gives by value.
-fn read_given(reader: &mut Reader<'_>) -> Given {
-    Given {
-        sides: sides::read(reader),
-        dpi: words::short_of(reader.word()),
-        xheight: floats::float_of(reader.word()),
-        p: settings::read(reader),
-        f: FusionParams {
-            llr_clip: floats::float_of(reader.word()),
-            group_cap: floats::float_of(reader.word()),
-        },
-    }
-}
-
 // Reads a page and answers it.
 pub fn page(rt: &impl Print, reader: &mut Reader<'_>) -> io::Result<()> {
-    let given = read_given(reader);
+    let sides = sides::read(reader);
+    let dpi = words::short_of(reader.word());
+    let xheight = floats::float_of(reader.word());
+    let settings = settings::read(reader);
+    let caps = FusionParams {
+        llr_clip: floats::float_of(reader.word()),
+        group_cap: floats::float_of(reader.word()),
+    };
     let mut shear = [0i32; 72];
     let mut shear_x = [0i32; 72];
     let mut gray = [0u8; 160];
@@ -33,20 +26,22 @@ pub fn page(rt: &impl Print, reader: &mut Reader<'_>) -> io::Result<()> {
     let mut glyphs = [0u32; 72];
     let columns = reader.list(&mut shear, words::signed_of);
     let rows = reader.list(&mut shear_x, words::signed_of);
-    let page = reader.list(&mut gray, words::byte_of);
-    let picture = reader.list(&mut ink, words::byte_of);
+    let grey_places = reader.list(&mut gray, words::byte_of);
+    let ink_places = reader.list(&mut ink, words::byte_of);
     let n = reader.list(&mut pieces, words::whole_of);
     let m = reader.list(&mut glyphs, words::whole_of);
-    let lent = reader.word();
-    answers::answer(
-        rt,
-        given,
-        &gray[..page],
-        &ink[..picture],
-        &shear[..columns],
-        &shear_x[..rows],
-        &pieces[..n],
-        &glyphs[..m],
-        lent,
-    )
+    let given = Page {
+        sides,
+        dpi,
+        xheight,
+        settings,
+        caps,
+        gray: &gray[..grey_places],
+        ink: &ink[..ink_places],
+        shear: &shear[..columns],
+        shear_x: &shear_x[..rows],
+        pieces: &pieces[..n],
+        glyphs: &glyphs[..m],
+    };
+    answers::answer(rt, &given, reader.word())
 }

@@ -5,6 +5,7 @@ use Rattle.sets.specs.Listing.{members_of, ends_from}
 use Rattle.order.specs.Order.{sorted_indexes}
 use Rattle.rects.specs.Rects.{count}
 use Rattle.rects.specs.Steps.{AllInside}
+use Rattle.paper.specs.Pixels.{Raster}
 use Rattle.ruling_lists.specs.declared.ruling.Ruling.{Ruling}
 use Rattle.ruling_lists.specs.Rulings.{ruling_keys, ruling_of, Near, ruling_rects, directions_of, contrasts_of}
 
@@ -33,21 +34,21 @@ pub record RoomForSets (ss : List (List ℕ)) (ms es : List ℕ) : Type 0 where
   pub small : length (concat ss) < 2 ^ 32
 
 -- The contrast of a set's ruling is near its exact value.
-abbrev pub NearOwn : List ℕ → ℕ → ℕ → List ℕ → List ℕ → Type 0
-NearOwn raster w h pieces s = Near raster w h pieces s (ruling_of raster w h pieces s).contrast
+abbrev pub NearOwn : Raster → List ℕ → List ℕ → Type 0
+NearOwn raster pieces s = Near raster.pixels raster.w raster.h pieces s (ruling_of raster.pixels raster.w raster.h pieces s).contrast
 
 -- What making a ruling promises of it.
-pub record RulingMade (raster : List ℕ) (w h : ℕ) (pieces s : List ℕ) (r : Ruling) : Type 0 where
-  pub value : r ≡ ruling_of raster w h pieces s
-  pub near : NearOwn raster w h pieces s
+pub record RulingMade (raster : Raster) (pieces s : List ℕ) (r : Ruling) : Type 0 where
+  pub value : r ≡ ruling_of raster.pixels raster.w raster.h pieces s
+  pub near : NearOwn raster pieces s
 
 -- The rulings of some sets were written from the front of three lists.
-pub record Described (raster : List ℕ) (w h : ℕ) (pieces : List ℕ) (ss : List (List ℕ)) (rs ds : List ℕ) (cs : List Float)
+pub record Described (raster : Raster) (pieces : List ℕ) (ss : List (List ℕ)) (rs ds : List ℕ) (cs : List Float)
     (rs' ds' : List ℕ) (cs' : List Float) : Type 0 where
   pub rects : rs' ≡ written (ruling_rects pieces ss) rs
   pub directions : ds' ≡ written (directions_of pieces ss) ds
-  pub contrasts : cs' ≡ written (contrasts_of raster w h pieces ss) cs
-  pub near : (k : ℕ) → k < length ss → NearOwn raster w h pieces (get_or ss k [])
+  pub contrasts : cs' ≡ written (contrasts_of raster.pixels raster.w raster.h pieces ss) cs
+  pub near : (k : ℕ) → k < length ss → NearOwn raster pieces (get_or ss k [])
 
 -- Three lists have room for n rulings.
 pub record RoomForRulings (n : ℕ) (rs ds : List ℕ) (cs : List Float) : Type 0 where
@@ -55,12 +56,12 @@ pub record RoomForRulings (n : ℕ) (rs ds : List ℕ) (cs : List Float) : Type 
   pub directions : n ≤ length ds
   pub contrasts : n ≤ length cs
 
--- A picture with its pieces.
-pub record Picture (raster : List ℕ) (w h : ℕ) (pieces : List ℕ) : Type 0 where
-  pub full : length raster ≡ w * h
-  pub narrow : w ≤ 8192
-  pub low : h ≤ 8192
-  pub inside : AllInside w h pieces
+-- A raster with its pieces.
+pub record Picture (raster : Raster) (pieces : List ℕ) : Type 0 where
+  pub full : length raster.pixels ≡ raster.w * raster.h
+  pub narrow : raster.w ≤ 8192
+  pub low : raster.h ≤ 8192
+  pub inside : AllInside raster.w raster.h pieces
 
 -- The sets were strung together from the front of two lists; they have no more members than there are pieces, and are no more.
 pub record SetsListed (ss : List (List ℕ)) (n : ℕ) (ls le ls' le' : List ℕ) (r : ℕ) : Type 0 where

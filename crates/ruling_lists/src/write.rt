@@ -2,7 +2,7 @@
 ghost use Rattle.std.specs.Prelude.{◌+◌, ◌≤◌, length};
 ghost use Rattle.ruling_lists.specs.Steps.{Parts, parts_of, in_order, Strung, RoomForSets, Described, RoomForRulings, Picture};
 
-use rects::Rect;
+use paper::Raster;
 
 // Strings the sets of a listing together, in the given order, with their ends.
 pub fn write_sets(
@@ -27,9 +27,7 @@ pub fn write_sets(
 
 // Writes the ruling of each set.
 pub fn write_rulings(
-    raster: &[u8],
-    w: usize,
-    h: usize,
+    raster: &Raster,
     pieces: &[u32],
     members: &[u32],
     ends: &[u32],
@@ -38,14 +36,14 @@ pub fn write_rulings(
     directions: &mut [u32],
     contrasts: &mut [f64],
 )
-    requires { Picture raster.now w h pieces.now × Parts pieces.now members.now ends.now count
+    requires { Picture raster.now pieces.now × Parts pieces.now members.now ends.now count
         × RoomForRulings count rects.old directions.old contrasts.old }
-    ensures { Described raster.now w h pieces.now (parts_of members.now ends.now count)
+    ensures { Described raster.now pieces.now (parts_of members.now ends.now count)
         rects.old directions.old contrasts.old rects.new directions.new contrasts.new }
 {
     for k in 0..count {
         let set = listings::members_of(members, ends, count, k);
-        let r = crate::ruling::ruling_of(raster, w, h, pieces, set);
+        let r = crate::ruling::ruling_of(raster, pieces, set);
         rects::put_rect(rects, k, r.rect);
         directions[k] = r.direction();
         contrasts[k] = r.contrast;

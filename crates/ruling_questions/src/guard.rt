@@ -1,35 +1,13 @@
-// The first missed of the questions, in order: its number, as C has it.
+// The first missed of the questions, in order.
 ghost use Rattle.std.specs.Prelude.{◌≡◌, ◌&&◌, ◌*◌, ◌≤◌, ◌<◌, ◌^◌};
 ghost use Rattle.questions.specs.Questions.{first_missed};
+ghost use Rattle.questions.specs.Missed.{number_in};
 ghost use Rattle.rects.specs.Rects.{count};
 ghost use Rattle.ruling_questions.specs.Questions.{ruling_questions};
-ghost use Rattle.ruling_questions.specs.Steps.{input_questions, answers_fit, work_fits};
+ghost use Rattle.ruling_questions.specs.Steps.{answers_fit, work_fits};
 
 use params::settings::RulingsParams;
-
-// Questions 1, 2, 5, 6, 7 to 11 and 13.
-fn missed_by_input(w: usize, h: usize, xheight: f64, pieces: &[u32], p: RulingsParams) -> u32
-    ensures { result ≡ first_missed (input_questions w h xheight pieces.now p) }
-{
-    let sides = layout::sides::levelled_sides_fit(w, h);
-    let scan = params::scan::missed_by_xheight(xheight);
-    let counted = rects::count_fits(pieces, 4096);
-    let inside = rects::all_inside(pieces, w, h);
-    let settings = params::validate::missed_by_settings(p);
-    if !sides {
-        return 1;
-    }
-    if scan != 0 {
-        return scan;
-    }
-    if !counted {
-        return 5;
-    }
-    if !inside {
-        return 6;
-    }
-    settings
-}
+use questions::{Missed, ask};
 
 // Question 14 of the lists that are written.
 fn answers_fit(
@@ -68,7 +46,7 @@ fn work_fits(
     (n <= parents) & (n <= listed) & (n <= listed_ends) & (n <= work) & (n <= keys)
 }
 
-// The number of the first missed question, and 0 where none is missed. The lists are given by their lengths.
+// The first missed question. The lists are given by their lengths, since the call that is lent them stands above.
 pub fn missed(
     w: usize,
     h: usize,
@@ -86,17 +64,18 @@ pub fn missed(
     listed_ends: usize,
     work: usize,
     keys: usize,
-) -> u32
-    ensures { result ≡ first_missed (ruling_questions w h xheight pieces.now p
+) -> Result<(), Missed>
+    ensures { number_in result ≡ first_missed (ruling_questions w h xheight pieces.now p
         (answers_fit w h (count pieces.now) raster rects directions contrasts members ends
         && work_fits (count pieces.now) parents listed listed_ends work keys)) }
 {
-    let number = missed_by_input(w, h, xheight, pieces, p);
-    if number != 0 {
-        return number;
-    }
+    ask(layout::sides::levelled_sides_fit(w, h), Missed::Sides)?;
+    params::scan::missed_by_xheight(xheight)?;
+    ask(rects::count_fits(pieces, 4096), Missed::Counts)?;
+    ask(rects::all_inside(pieces, w, h), Missed::Rectangles)?;
+    params::validate::missed_by_settings(p)?;
     let n = pieces.len() / 4;
     let answers = answers_fit(w, h, n, raster, rects, directions, contrasts, members, ends);
     let room = work_fits(n, parents, listed, listed_ends, work, keys);
-    if answers & room { 0 } else { 14 }
+    ask(answers & room, Missed::Room)
 }

@@ -1,9 +1,10 @@
 // The page, and what is given beside it.
 use crate::{settings, shown};
 use layout::sides::Sides;
+use layout::tables::Shears;
+use page::given::Page;
 use params::settings::FusionParams;
 use small_pages::found;
-use small_pages::given::Given;
 use std::io;
 
 pub fn run(rt: &impl Print) -> io::Result<()> {
@@ -17,13 +18,35 @@ fn read(rt: &impl Print, gray: &[u8; 360]) -> io::Result<()> {
     let shear = [1, 1, 1, 1, 1, 1, 1, 1, 1, 1, 1, 1, 0, 0, 0, 0, 0, 0, 0, 0];
     let shear_x = [0i32; 19];
     let mut ink = [0u8; 380];
-    level_gray::level_gray(sides(), gray, &shear, &shear_x, &mut ink);
+    let shears = Shears {
+        sides: sides(),
+        shear: &shear,
+        shear_x: &shear_x,
+    };
+    // This page misses no question.
+    let _ = level_gray::level_gray(&shears, gray, &mut ink);
     mark_ink(&mut ink);
     let pieces = [
         0, 1, 4, 1, 6, 1, 10, 1, 0, 5, 10, 5, 0, 9, 10, 9, 0, 1, 0, 9, 10, 1, 10, 9, 0, 16, 19, 16,
     ];
     let glyphs = [14, 0, 19, 5, 14, 8, 19, 13];
-    let found = found::detect(given(), gray, &ink, &shear, &shear_x, &pieces, &glyphs, 380);
+    let given = Page {
+        sides: sides(),
+        dpi: 10,
+        xheight: 1.0,
+        settings: settings::settings(),
+        caps: FusionParams {
+            llr_clip: 4.0,
+            group_cap: 6.0,
+        },
+        gray,
+        ink: &ink,
+        shear: &shear,
+        shear_x: &shear_x,
+        pieces: &pieces,
+        glyphs: &glyphs,
+    };
+    let found = found::detect(&given, 380);
     shown::show(rt, &found)
 }
 
@@ -78,18 +101,5 @@ fn sides() -> Sides {
         ph: 18,
         w: 20,
         h: 19,
-    }
-}
-
-fn given() -> Given {
-    Given {
-        sides: sides(),
-        dpi: 10,
-        xheight: 1.0,
-        p: settings::settings(),
-        f: FusionParams {
-            llr_clip: 4.0,
-            group_cap: 6.0,
-        },
     }
 }

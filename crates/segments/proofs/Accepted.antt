@@ -1,11 +1,11 @@
 -- What a page is once its questions were answered yes.
 use mathlib.Core.Path.{◌≡◌, refl, ap, ◌∙◌}
 use mathlib.Core.Bool.{Bool, true, false, ◌&&◌}
-use mathlib.Core.List.{List, [], ◌∷◌, ◌++◌}
+use mathlib.Core.List.{List, [], ◌∷◌}
 use Prim.Native.Nat.{ℕ, ◌*◌, ◌≤◌}
-use lib.Dec.{leb, eqb}
+use lib.Dec.{leb}
 use lib.ListN.{length}
-use borrow.Author.Tests.{leb-true, eqb-true}
+use Rattle.std.proofs.Common.{rules, tests}
 use Rattle.lists.proofs.Every.{and_first, and_second}
 use Rattle.questions.specs.Questions.{first_missed}
 use Rattle.questions.proofs.FirstMissed.{all_yes, none_missed, yes_parts}
@@ -16,47 +16,18 @@ use Rattle.params.specs.Scan.{xheight_questions}
 use Rattle.params.specs.Settings.{settings_questions}
 use Rattle.params.specs.Steps.{SettingsPassed}
 use Rattle.segments.specs.Call.{Given, Lent, has_room, questions}
-use Rattle.ruling_questions.specs.Steps.{input_questions, answers_fit, work_fits}
+use Rattle.ruling_questions.specs.Questions.{ruling_questions}
+use Rattle.ruling_questions.specs.Steps.{answers_fit, work_fits}
 use Rattle.segments.specs.Steps.{WorkRoom, Ready}
 
 -- ---- question 14
 
 answers_say : (w h n raster rects directions contrasts members ends : ℕ) → answers_fit w h n raster rects directions contrasts members ends ≡ true
     → (raster ≡ w * h) × (4 * n ≤ rects) × (n ≤ directions) × (n ≤ contrasts) × (n ≤ members) × (n ≤ ends)
-answers_say w h n raster rects directions contrasts members ends t =
-    let a0 = eqb raster (w * h) in
-    let a1 = a0 && leb (4 * n) rects in
-    let a2 = a1 && leb n directions in
-    let a3 = a2 && leb n contrasts in
-    let a4 = a3 && leb n members in
-    let t4 : a4 ≡ true = and_first a4 (leb n ends) t in
-    let t3 : a3 ≡ true = and_first a3 (leb n members) t4 in
-    let t2 : a2 ≡ true = and_first a2 (leb n contrasts) t3 in
-    let t1 : a1 ≡ true = and_first a1 (leb n directions) t2 in (
-      eqb-true raster (w * h) (and_first a0 (leb (4 * n) rects) t1),
-      leb-true (4 * n) rects (and_second a0 (leb (4 * n) rects) t1),
-      leb-true n directions (and_second a1 (leb n directions) t2),
-      leb-true n contrasts (and_second a2 (leb n contrasts) t3),
-      leb-true n members (and_second a3 (leb n members) t4),
-      leb-true n ends (and_second a4 (leb n ends) t),
-    )
+answers_say w h n raster rects directions contrasts members ends t = search (rules, tests)
 
 work_says : (ps ls le ws ks : List ℕ) (n : ℕ) → work_fits n (length ps) (length ls) (length le) (length ws) (length ks) ≡ true → WorkRoom n ps ls le ws ks
-work_says ps ls le ws ks n t =
-    let b0 = leb n (length ps) in
-    let b1 = b0 && leb n (length ls) in
-    let b2 = b1 && leb n (length le) in
-    let b3 = b2 && leb n (length ws) in
-    let t3 : b3 ≡ true = and_first b3 (leb n (length ks)) t in
-    let t2 : b2 ≡ true = and_first b2 (leb n (length ws)) t3 in
-    let t1 : b1 ≡ true = and_first b1 (leb n (length le)) t2 in
-    record {
-      parents = leb-true n (length ps) (and_first b0 (leb n (length ls)) t1);
-      listed = leb-true n (length ls) (and_second b0 (leb n (length ls)) t1);
-      listed_ends = leb-true n (length le) (and_second b1 (leb n (length le)) t2);
-      work = leb-true n (length ws) (and_second b2 (leb n (length ws)) t3);
-      keys = leb-true n (length ks) (and_second b3 (leb n (length ks)) t);
-    }
+work_says ps ls le ws ks n t = search (rules, tests)
 
 -- ---- the call's questions
 
@@ -78,9 +49,8 @@ module _ (g : Given) (l : Lent) where
       flat true b c d e f = refl
       flat false b c d e f = refl
 
-  pub asked : {q : ℕ} → q ≡ first_missed (input_questions g.w g.h g.xheight g.pieces g.settings ++ (14, answers && work) ∷ [])
-      → q ≡ first_missed (questions g l)
-  asked e = e ∙ ap (λ (b : Bool). first_missed (input_questions g.w g.h g.xheight g.pieces g.settings ++ (14, b) ∷ [])) room_is
+  pub asked : {q : ℕ} → q ≡ first_missed (ruling_questions g.w g.h g.xheight g.pieces g.settings (answers && work)) → q ≡ first_missed (questions g l)
+  asked e = e ∙ ap (λ (b : Bool). first_missed (ruling_questions g.w g.h g.xheight g.pieces g.settings b)) room_is
 
   -- what the questions say of the settings
   pub settled : first_missed (questions g l) ≡ 0 → SettingsPassed g.settings g.xheight

@@ -87,14 +87,14 @@ module _ (pieces : List ℕ) (across gap : ℕ) {ls le ls' le' : List ℕ} {r : 
     pub strung_parts : Parts pieces ms' es' r
     strung_parts = listing_parts pieces (ordered_sets pieces across gap) ms es (rulings_listed pieces across gap) (fits room) (few ends) S.members S.ends long
 
-    pub made : {raster : List ℕ} {w h : ℕ} {rs ds rs' ds' : List ℕ} {cs cs' : List Float} → Described raster w h pieces (parts_of ms' es' r) rs ds cs rs' ds' cs'
+    pub made : {raster : List ℕ} {w h : ℕ} {rs ds rs' ds' : List ℕ} {cs cs' : List Float} → Described (record { pixels = raster; w = w; h = h }) pieces (parts_of ms' es' r) rs ds cs rs' ds' cs'
         → Made raster w h pieces (ordered_sets pieces across gap) rs ds cs ms es rs' ds' cs' ms' es' r
     made {raster} {w} {h} {rs} {ds} {rs'} {ds'} {cs} {cs'} D =
         record {
           few = few_sets;
           count = long;
           described =
-              subst (λ (ss : List (List ℕ)). Described raster w h pieces ss rs ds cs rs' ds' cs')
+              subst (λ (ss : List (List ℕ)). Described (record { pixels = raster; w = w; h = h }) pieces ss rs ds cs rs' ds' cs')
               (parts_are (ordered_sets pieces across gap) ms es (fits room) (few ends) S.members S.ends long) D;
           strung = S;
           read = listing_read (ordered_sets pieces across gap) ms es (fits room) (few ends) S.members S.ends long;

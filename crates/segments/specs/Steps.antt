@@ -14,7 +14,7 @@ pub record WorkRoom (n : ℕ) (ps ls le ws ks : List ℕ) : Type 0 where
 
 -- What the questions give: a picture with at most 4,096 pieces, and room in every list.
 pub record Ready (raster : List ℕ) (w h : ℕ) (pieces : List ℕ) (rs ds : List ℕ) (cs : List Float) (ms es ps ls le ws ks : List ℕ) : Type 0 where
-  pub picture : Picture raster w h pieces
+  pub picture : Picture (record { pixels = raster; w = w; h = h }) pieces
   pub few : count pieces ≤ 4096
   pub rulings : RoomForRulings (count pieces) rs ds cs
   pub members : count pieces ≤ length ms
@@ -27,6 +27,6 @@ pub record Made (raster : List ℕ) (w h : ℕ) (pieces : List ℕ) (ss : List (
     (ms es rs' ds' : List ℕ) (cs' : List Float) (ms' es' : List ℕ) (r : ℕ) : Type 0 where
   pub few : r ≤ count pieces
   pub count : r ≡ length ss
-  pub described : Described raster w h pieces ss rs ds cs rs' ds' cs'
+  pub described : Described (record { pixels = raster; w = w; h = h }) pieces ss rs ds cs rs' ds' cs'
   pub strung : Strung ss ms es ms' es'
   pub read : ReadAs ss ms' es' r

@@ -3,9 +3,11 @@ ghost use Rattle.ruling_lists.specs.Rulings.{ordered_sets};
 ghost use Rattle.segments.specs.Call.{Segments};
 ghost use Rattle.segments.specs.Steps.{Ready, Made};
 
+use paper::Raster;
 use params::settings::RulingsParams;
 
-// The number of the first missed question, 0 where the page is accepted, and the number of rulings.
+// The number of the first missed question, 0 where the page is accepted, and the number of rulings. No `Result`: C gets
+// it as it is.
 #[repr(C)]
 #[derive(Clone, Copy)]
 pub struct Answer {
@@ -15,9 +17,7 @@ pub struct Answer {
 
 // The rulings of a page that passed its questions, and how many there are. Once the sets are listed, the parents hold their order.
 pub fn rulings(
-    raster: &[u8],
-    w: usize,
-    h: usize,
+    raster: &Raster,
     pieces: &[u32],
     across: u32,
     gap: u32,
@@ -32,9 +32,9 @@ pub fn rulings(
     work: &mut [u32],
     keys: &mut [u64],
 ) -> usize
-    requires { Ready raster.now w h pieces.now rects.old directions.old contrasts.old
+    requires { Ready raster.now.pixels raster.now.w raster.now.h pieces.now rects.old directions.old contrasts.old
         members.old ends.old parents.old listed.old listed_ends.old work.old keys.old }
-    ensures { Made raster.now w h pieces.now (ordered_sets pieces.now across gap)
+    ensures { Made raster.now.pixels raster.now.w raster.now.h pieces.now (ordered_sets pieces.now across gap)
         rects.old directions.old contrasts.old members.old ends.old
         rects.new directions.new contrasts.new members.new ends.new result }
 {
@@ -59,7 +59,7 @@ pub fn rulings(
     );
     ruling_lists::write::write_sets(parents, count, listed, listed_ends, members, ends);
     ruling_lists::write::write_rulings(
-        raster, w, h, pieces, members, ends, count, rects, directions, contrasts,
+        raster, pieces, members, ends, count, rects, directions, contrasts,
     );
     count
 }
@@ -116,7 +116,7 @@ pub fn segments(
           keys = keys.new;
         }) result }
 {
-    let number = ruling_questions::guard::missed(
+    let asked = ruling_questions::guard::missed(
         w,
         h,
         xheight,
@@ -134,15 +134,21 @@ pub fn segments(
         work.len(),
         keys.len(),
     );
-    if number != 0 {
-        return Answer { number, count: 0 };
+    if let Err(missed) = asked {
+        return Answer {
+            number: missed.number(),
+            count: 0,
+        };
     }
     let across = params::pixels::limit_u32(p.merge_across_xh, xheight);
     let gap = params::pixels::limit_u32(p.merge_gap_xh, xheight);
-    let count = rulings(
-        raster,
+    let raster = Raster {
+        pixels: raster,
         w,
         h,
+    };
+    let count = rulings(
+        &raster,
         pieces,
         across,
         gap,

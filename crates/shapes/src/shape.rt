@@ -8,6 +8,7 @@ ghost use Rattle.shapes.specs.Steps.{Collected, LinesCounted, Shaped};
 use crate::limits::Limits;
 use meeting::segment::{Rulings, Segment};
 
+// The direction that is asked for is a bool, since it is compared with the ruling's own and chooses no other step.
 fn in_direction(a: Segment, horizontal: bool) -> bool
     ensures { result ≡ in_direction horizontal a }
 {

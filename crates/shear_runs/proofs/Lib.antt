@@ -1,4 +1,3 @@
--- Laws of runs of columns and of bytes, and of the parts and areas that steps write.
-pub mod Runs
+-- Laws of the parts and areas that steps write.
 pub mod Parts
 pub mod Areas

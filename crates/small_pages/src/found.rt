@@ -1,8 +1,6 @@
 // What is found on a small page, by value.
-use crate::given::Given;
-use crate::lend;
-use page::answer;
 use page::answer::Answer;
+use page::given::Page;
 
 // The answer, and every list that it speaks of, whole.
 #[derive(Clone, Copy)]
@@ -49,16 +47,7 @@ pub struct Found {
 
 // Reads a page of up to 16 pieces, 16 glyph boxes and 1,024 places, with `room` bytes lent for the levelled
 // raster, each of them 7 before the call. A larger page is refused by 14.
-pub fn detect(
-    given: Given,
-    gray: &[u8],
-    ink: &[u8],
-    shear: &[i32],
-    shear_x: &[i32],
-    pieces: &[u32],
-    glyphs: &[u32],
-    room: usize,
-) -> Found {
+pub fn detect(given: &Page, room: usize) -> Found {
     let mut levelled = [7u8; 1024];
     let mut rects = [0u32; 64];
     let mut boxes = [0u32; 64];
@@ -102,42 +91,43 @@ pub fn detect(
     let mut box_order = [0u32; 16];
     let mut listed = [0u32; 16];
     let mut listed_ends = [0u32; 16];
-    let mut keys = [0u64; 16];
+    let mut piece_keys = [0u64; 16];
     let mut box_keys = [0u64; 16];
     let n = room.min(1024);
-    let mut answer = answer::refused(0);
-    lend::lend(
+    let answer = detect::lists_apart::detect(
         given,
-        gray,
-        ink,
-        shear,
-        shear_x,
-        pieces,
-        glyphs,
         &mut levelled[..n],
         &mut rects,
-        &mut boxes,
         &mut directions,
-        &mut marks,
         &mut contrasts,
-        &mut shares,
-        &mut coverages,
         &mut printed,
-        &mut reading,
-        &mut free,
         &mut faint,
         &mut piece_members,
-        &mut printed_members,
-        &mut box_members,
         &mut piece_ends,
-        &mut printed_ends,
-        &mut box_ends,
-        &mut table_numbers,
-        &mut grid_numbers,
         &mut bounds,
         &mut rows,
         &mut columns,
         &mut rulings,
+        &mut shares,
+        &mut free,
+        &mut printed_members,
+        &mut printed_ends,
+        &mut table_numbers,
+        &mut piece_parents,
+        &mut listed,
+        &mut listed_ends,
+        &mut piece_order,
+        &mut piece_keys,
+        &mut boxes,
+        &mut marks,
+        &mut coverages,
+        &mut reading,
+        &mut box_members,
+        &mut box_ends,
+        &mut grid_numbers,
+        &mut box_parents,
+        &mut box_order,
+        &mut box_keys,
         &mut page,
         &mut kinds,
         &mut a,
@@ -151,15 +141,6 @@ pub fn detect(
         &mut second_thresholds,
         &mut second_llrs,
         &mut lengths,
-        &mut piece_parents,
-        &mut box_parents,
-        &mut piece_order,
-        &mut box_order,
-        &mut listed,
-        &mut listed_ends,
-        &mut keys,
-        &mut box_keys,
-        &mut answer,
     );
     Found {
         answer,

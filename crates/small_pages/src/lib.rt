@@ -2,5 +2,3 @@
 #![tactic(auto)]
 
 pub mod found;
-pub mod given;
-pub mod lend;

@@ -1,11 +1,12 @@
 // Indexes in the order of their keys, and the first place in it from which the keys are large enough: what is within bounds is found without
-// a look at the rest.
+// a look at the rest. The number n of indexes stands beside the lists, since these are lent and may be longer.
 #![tactic(auto)]
 
 ghost use Rattle.std.specs.Prelude.{◌≡◌, ◌≤◌, ◌^◌, drop};
 ghost use Rattle.sorted.specs.Steps.{offset, SortRoom, InOrder, FirstAtLeast};
 
 // What is added to the keys of the second of two kinds, so that these stand behind all of the first, whose keys are smaller.
+// A bool, since it is a test that each caller has made.
 pub fn offset(first: bool) -> u64
     ensures { (result ≡ offset first) × (result ≤ 2 ^ 34) }
 {

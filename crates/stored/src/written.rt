@@ -6,6 +6,11 @@ pub fn word(rt: &impl Print, value: u64) -> io::Result<()> {
     print!(rt; " {value:x}")
 }
 
+// A count as a word. There is no `From` for usize.
+pub fn count(rt: &impl Print, n: usize) -> io::Result<()> {
+    word(rt, n as u64)
+}
+
 pub fn end(rt: &impl Print) -> io::Result<()> {
     println!(rt)
 }

@@ -6,11 +6,13 @@ ghost use Rattle.std.proofs.lemmas.List.Edits.{sets};
 ghost use Rattle.lists.specs.Lists.{below};
 ghost use Rattle.rects.specs.Rects.{count};
 ghost use Rattle.rects.specs.Steps.{AllInside};
-ghost use Rattle.finding_lists.specs.Steps.{Wrote, RanksGiven};
+ghost use Rattle.finding_lists.specs.Columns.{columns_of};
+ghost use Rattle.finding_lists.specs.Steps.{Wrote, RanksGiven, SameFindings};
 ghost use Rattle.findings.specs.Steps.{table_key, TablesGiven};
 ghost use Rattle.findings.specs.Made.{table_at};
 
 use evidence::finding::Finding;
+use finding_lists::lent::LentFindings;
 use finding_lists::put;
 use findings::sources::{Scan, TableLists};
 
@@ -52,24 +54,21 @@ pub fn write(
     tables: &TableLists,
     ranks: &[u32],
     at: usize,
-    rects: &mut [u32],
-    facts: &mut [&mut [u32]; 4],
-    scores: &mut [&mut [f64]; 8],
+    lists: &mut LentFindings,
 ) -> bool
     requires given { TablesGiven scan.now.sides.w scan.now.sides.h tables.now.bounds tables.now.rows tables.now.columns tables.now.rulings
         tables.now.shares }
-    requires ranks_given { RanksGiven ranks.now at (count tables.now.bounds) (record { rects = rects.old; facts = map (λ x. x.now) facts.old; scores = map (λ x. x.now) scores.old }) }
-    ensures { Wrote (table_at scan.now tables.now) (count tables.now.bounds) ranks.now at
-        (record { rects = rects.old; facts = map (λ x. x.now) facts.old; scores = map (λ x. x.now) scores.old })
-        (record { rects = rects.new; facts = map (λ x. x.now) facts.new; scores = map (λ x. x.now) scores.new }) result }
+    requires ranks_given { RanksGiven ranks.now at (count tables.now.bounds) (columns_of lists.old) }
+    ensures wrote { Wrote (table_at scan.now tables.now) (count tables.now.bounds) ranks.now at
+        (columns_of lists.old)
+        (columns_of lists.new) result }
+    ensures same { SameFindings lists.old lists.new }
 {
     put::put_all(
         |k| finding(scan, tables, k),
         tables.bounds.len() / 4,
         ranks,
         at,
-        rects,
-        facts,
-        scores,
+        lists,
     )
 }

@@ -3,17 +3,10 @@ use Rattle.std.specs.Prelude.{◌≡◌, List, map, ℕ, ◌≤◌, ◌<◌, Flo
 use Rattle.lists.specs.Lists.{below, concat, written}
 use Rattle.meeting.specs.declared.segment.Segment.{Segment}
 use Rattle.shapes.specs.declared.limits.Limits.{Limits}
-use Rattle.meeting.specs.Segments.{ruling_at}
 use Rattle.shapes.specs.Shapes.{rows_of, columns_of}
 use Rattle.meeting.specs.Meeting.{share_of}
 use Rattle.table_lists.specs.Answers.{table_numbers, free_list, bounds_of}
 use Rattle.meeting.specs.Steps.{IndexesBelow}
-use Rattle.sets.specs.Listing.{members_of}
-use Rattle.table_lists.specs.declared.facts.Sets.{Sets}
-
--- The set of each number below the count of a listing.
-abbrev pub set_of : Sets → ℕ → List ℕ
-set_of s = members_of s.members.now s.ends.now s.count
 
 -- The sets below a count: not empty, within the indexes below n, and no more of both than n.
 pub record SetsIn (n : ℕ) (set : ℕ → List ℕ) (count : ℕ) : Type 0 where
@@ -54,9 +47,3 @@ pub record Bounded (rects chosen : List ℕ) (set : ℕ → List ℕ) (numbers o
 pub record Measured (join : ℕ) (s : ℕ → Segment) (set : ℕ → List ℕ) (numbers ru : List ℕ) (sh : List Float) (ru' : List ℕ) (sh' : List Float) : Type 0 where
   pub rulings : ru' ≡ written (map (λ k. length (set k)) numbers) ru
   pub shares : sh' ≡ written (map (λ k. share_of join s (set k)) numbers) sh
-
--- Rectangles, sizes and joined shares of the sets with the given numbers were written.
-pub record FactsWritten (join : ℕ) (rects directions chosen : List ℕ) (set : ℕ → List ℕ) (numbers bo ru : List ℕ) (sh : List Float)
-    (bo' ru' : List ℕ) (sh' : List Float) : Type 0 where
-  pub bounded : Bounded rects chosen set numbers bo bo'
-  pub measured : Measured join (ruling_at rects directions chosen) set numbers ru sh ru' sh'

@@ -1,32 +1,17 @@
 // Which sets are tables, what is found of each, and the free list.
-ghost use Rattle.std.specs.Prelude.{◌≡◌, ◌+◌, ◌*◌, ◌<◌, ◌≤◌, ◌^◌, length, take};
+ghost use Rattle.std.specs.Prelude.{◌≡◌, ◌*◌, ◌<◌, ◌≤◌, ◌^◌, length, take};
+ghost use Rattle.listings.specs.Listed.{set_of};
 ghost use Rattle.rects.specs.Around.{around};
 ghost use Rattle.meeting.specs.Segments.{ruling};
 ghost use Rattle.table_lists.specs.Answers.{places_of};
 ghost use Rattle.meeting.specs.Steps.{IndexesBelow};
-ghost use Rattle.table_lists.specs.Steps.{set_of, SetsIn, Numbers, Rooms, Chose, Bounded, Measured};
+ghost use Rattle.table_lists.specs.Steps.{SetsIn, Numbers, Rooms, Chose, Bounded, Measured};
 
 use junctions::ends;
+use listings::listed::Sets;
 use meeting::segment::Rulings;
 use shapes::limits::Limits;
 use shapes::shape;
-
-// The sets of a listing: their members, where each ends among these, and how many there are.
-#[derive(Drop)]
-pub struct Sets<'a> {
-    pub members: &'a [u32],
-    pub ends: &'a [u32],
-    pub count: usize,
-}
-
-impl<'a> Sets<'a> {
-    // The members of one set.
-    fn at(&self, k: usize) -> &'a [u32]
-        ensures { result.now ≡ set_of self.now k }
-    {
-        listings::members_of(self.members, self.ends, self.count, k)
-    }
-}
 
 // How many tables there are, and how many free rulings.
 #[derive(Clone, Copy)]
@@ -87,7 +72,8 @@ fn around_set(rulings: &Rulings, set: &[u32]) -> rects::Rect
     r
 }
 
-// Writes the smallest rectangle around each table.
+// Writes the smallest rectangle around each table. Their number is given, since the front part of a lent list that is made where others are
+// lent loses its content in the proof.
 pub fn bound(rulings: &Rulings, sets: &Sets, numbers: &[u32], tables: usize, out: &mut [u32])
     requires { SetsIn (length rulings.now.chosen) (set_of sets.now) sets.now.count
         × Numbers numbers.now tables sets.now.count × (4 * tables ≤ length out.old) }
@@ -100,7 +86,7 @@ pub fn bound(rulings: &Rulings, sets: &Sets, numbers: &[u32], tables: usize, out
     }
 }
 
-// Writes the number of rulings and the joined share of each table. The last three lists are lent to sort in, with a place a ruling each.
+// Writes the number of rulings and the joined share of each table, whose number is given as in `bound`. The last three lists are lent to sort in, with a place a ruling each.
 pub fn measure(
     rulings: &Rulings,
     join: u64,

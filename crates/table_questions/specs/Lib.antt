@@ -1,3 +1,3 @@
--- What a reader must believe of the questions that `tables` puts. `Steps` is not needed to read the contracts.
+-- What a reader must believe of the questions that `tables` puts.
 pub mod Questions
-pub mod Steps
+pub mod Lent

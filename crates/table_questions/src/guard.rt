@@ -1,10 +1,14 @@
-// The first missed of the questions, in order: its number, as C has it.
+// The questions that `tables` puts.
 ghost use Rattle.std.specs.Prelude.{◌≡◌};
+ghost use Rattle.rects.specs.Rects.{count};
 ghost use Rattle.questions.specs.Questions.{first_missed};
+ghost use Rattle.questions.specs.Missed.{number_in};
 ghost use Rattle.table_questions.specs.Questions.{directions_fit, table_questions};
-ghost use Rattle.table_questions.specs.Steps.{room_for_tables, room_for_indexes};
+ghost use Rattle.table_questions.specs.Lent.{lists_of, room_for};
 
+use crate::lent::Lists;
 use params::settings::RulingsParams;
+use questions::{Missed, ask};
 
 fn directions_fit(rects: &[u32], directions: &[u32]) -> bool
     ensures { result ≡ directions_fit rects.now directions.now }
@@ -12,63 +16,21 @@ fn directions_fit(rects: &[u32], directions: &[u32]) -> bool
     directions.len() == rects.len() / 4 && directions.iter().all(|d| *d <= 1)
 }
 
-pub fn room_for_tables(
-    n: usize,
-    numbers: usize,
-    rects: usize,
-    rows: usize,
-    columns: usize,
-    rulings: usize,
-    shares: usize,
-) -> bool
-    ensures { result ≡ room_for_tables n numbers rects rows columns rulings shares }
+pub fn missed(
+    xheight: f64,
+    p: RulingsParams,
+    rects: &[u32],
+    directions: &[u32],
+    lists: &Lists,
+    chosen: &[u32],
+) -> Result<(), Missed>
+    ensures { number_in result ≡ first_missed (table_questions xheight p rects.now directions.now
+        (room_for (count rects.now) (lists_of lists.now) chosen.now)) }
 {
-    (n <= numbers) & (n <= rects) & (n <= rows) & (n <= columns) & (n <= rulings) & (n <= shares)
-}
-
-pub fn room_for_indexes(
-    n: usize,
-    members: usize,
-    ends: usize,
-    free: usize,
-    chosen: usize,
-    parents: usize,
-    work: usize,
-    keys: usize,
-) -> bool
-    ensures { result ≡ room_for_indexes n members ends free chosen parents work keys }
-{
-    (n <= members)
-        & (n <= ends)
-        & (n <= free)
-        & (n <= chosen)
-        & (n <= parents)
-        & (n <= work)
-        & (n <= keys)
-}
-
-// The number of the first missed question, and 0 where none is.
-pub fn missed(xheight: f64, p: RulingsParams, rects: &[u32], directions: &[u32], room: bool) -> u32
-    ensures { result ≡ first_missed (table_questions xheight p rects.now directions.now room) }
-{
-    let scan = params::scan::missed_by_xheight(xheight);
+    params::scan::missed_by_xheight(xheight)?;
     let given = rects::count_fits(rects, 4096) & directions_fit(rects, directions);
-    let inside = rects::all_inside(rects, 8192, 8192);
-    let settings = params::validate::missed_by_settings(p);
-    if scan != 0 {
-        return scan;
-    }
-    if !given {
-        return 5;
-    }
-    if !inside {
-        return 6;
-    }
-    if settings != 0 {
-        return settings;
-    }
-    if !room {
-        return 14;
-    }
-    0
+    ask(given, Missed::Counts)?;
+    ask(rects::all_inside(rects, 8192, 8192), Missed::Rectangles)?;
+    params::validate::missed_by_settings(p)?;
+    ask(lists.room_for(rects.len() / 4, chosen), Missed::Room)
 }

@@ -2,3 +2,4 @@
 #![tactic(auto)]
 
 pub mod guard;
+pub mod lent;

@@ -19,9 +19,10 @@ use Rattle.shapes.specs.Shapes.{is_table}
 use Rattle.table_lists.specs.Answers.{table_numbers}
 use Rattle.meeting.specs.Steps.{IndexesBelow}
 use Rattle.crossings.specs.Steps.{Connected}
-use Rattle.table_lists.specs.Steps.{SetsIn, Numbers, Chose, FactsWritten}
+use Rattle.table_lists.specs.Steps.{SetsIn, Numbers, Chose, Bounded, Measured}
 use Rattle.tables.specs.Call.{set_at}
-use Rattle.tables.specs.Steps.{Lists, Filled}
+use Rattle.table_questions.specs.Lent.{Lists}
+use Rattle.tables.specs.Steps.{Filled}
 use Rattle.table_lists.proofs.Passes.{tables_few}
 
 module _ (join : ℕ) (s : ℕ → Segment) (n : ℕ) {m e m' e' : List ℕ} {r : ℕ} (C : Connected join s n m e m' e' r) (room : n ≤ length m) (wide : n ≤ length e) where
@@ -85,15 +86,15 @@ module _ (rects directions chosen : List ℕ) (lim : Limits) (l l' : Lists) wher
   pub filled : {r t a : ℕ} {f : ℕ → List ℕ} → Connected lim.join s (length chosen) l.members l.ends l'.members l'.ends r
       → f ≡ set_at rects directions chosen lim → ReadAs (ruling_sets lim.join s (length chosen)) l'.members l'.ends r
       → Chose lim s f r l.numbers l.rows l.columns l.free l'.numbers l'.rows l'.columns l'.free t a
-      → FactsWritten lim.join rects directions chosen f (take t l'.numbers) l.bounds l.rulings l.shares l'.bounds l'.rulings l'.shares
+      → Bounded rects chosen f (take t l'.numbers) l.bounds l'.bounds × Measured lim.join s f (take t l'.numbers) l.rulings l.shares l'.rulings l'.shares
       → Filled rects directions chosen lim l l' r t a
   filled {r} {t} {a} {f} C ef B H D =
       let n = length (ruling_sets lim.join s (length chosen)) in
       let H₁ : Chose lim s f n l.numbers l.rows l.columns l.free l'.numbers l'.rows l'.columns l'.free t a =
       subst (λ (c : ℕ). Chose lim s f c l.numbers l.rows l.columns l.free l'.numbers l'.rows l'.columns l'.free t a) C.count H in
       let H₂ = subst (λ (g : ℕ → List ℕ). Chose lim s g n l.numbers l.rows l.columns l.free l'.numbers l'.rows l'.columns l'.free t a) ef H₁ in
-      let D₁ = subst (λ (w : List ℕ). FactsWritten lim.join rects directions chosen f w l.bounds l.rulings l.shares l'.bounds l'.rulings l'.shares) (in_front H₁) D in
-      let D₂ = subst (λ (g : ℕ → List ℕ). FactsWritten lim.join rects directions chosen g (table_numbers lim s g n) l.bounds l.rulings l.shares l'.bounds l'.rulings l'.shares) ef D₁ in
+      let D₁ = subst (λ (w : List ℕ). Bounded rects chosen f w l.bounds l'.bounds × Measured lim.join s f w l.rulings l.shares l'.rulings l'.shares) (in_front H₁) D in
+      let D₂ = subst (λ (g : ℕ → List ℕ). Bounded rects chosen g (table_numbers lim s g n) l.bounds l'.bounds × Measured lim.join s g (table_numbers lim s g n) l.rulings l.shares l'.rulings l'.shares) ef D₁ in
       record {
         set_count = C.count;
         table_count = H₂.tables;
@@ -101,11 +102,11 @@ module _ (rects directions chosen : List ℕ) (lim : Limits) (l l' : Lists) wher
         members = C.members;
         ends = C.ends;
         numbers = H₂.numbers;
-        bounds = D₂.bounded.content;
+        bounds = D₂.0.content;
         rows = H₂.rows;
         columns = H₂.columns;
-        rulings = D₂.measured.rulings;
-        shares = D₂.measured.shares;
+        rulings = D₂.1.rulings;
+        shares = D₂.1.shares;
         free = H₂.free_list;
         read = B;
       }

@@ -1,31 +1,17 @@
 -- What the functions under `tables` say to each other; none of it is needed to read the call's contract.
 use Rattle.std.specs.Prelude.{◌≡◌, ℕ, ◌*◌, ◌≤◌, List, length}
-use Rattle.std.specs.Prelude.{Float}
 use Rattle.lists.specs.Lists.{concat, written}
 use Rattle.sets.specs.Listing.{ends_from, ReadAs}
 use Rattle.shapes.specs.declared.limits.Limits.{Limits}
+use Rattle.table_questions.specs.Lent.{Lists}
 use Rattle.tables.specs.Call.{Lent, all_sets, tables, free, bounds, rows, columns, rulings, shares}
 
--- The lists that the core is lent: all of the call's but the places of the chosen rulings.
-pub record Lists : Type 0 where
-  pub members : List ℕ
-  pub ends : List ℕ
-  pub numbers : List ℕ
-  pub bounds : List ℕ
-  pub rows : List ℕ
-  pub columns : List ℕ
-  pub rulings : List ℕ
-  pub shares : List Float
-  pub free : List ℕ
-  pub parents : List ℕ
-  pub work : List ℕ
-  pub keys : List ℕ
-
-abbrev pub lists_of : Lent → Lists
-lists_of l =
+-- The lists of the call, from those of the struct and the places of the chosen rulings.
+abbrev pub with_chosen : Lists → List ℕ → Lent
+with_chosen l chosen =
     record {
-      members = l.printed_members;
-      ends = l.printed_ends;
+      printed_members = l.members;
+      printed_ends = l.ends;
       numbers = l.numbers;
       bounds = l.bounds;
       rows = l.rows;
@@ -33,6 +19,7 @@ lists_of l =
       rulings = l.rulings;
       shares = l.shares;
       free = l.free;
+      chosen = chosen;
       parents = l.parents;
       work = l.work;
       keys = l.keys;

@@ -3,13 +3,16 @@
 
 pub mod inner;
 
+ghost use Rattle.table_questions.specs.Lent.{lists_of, Same};
 ghost use Rattle.tables.specs.Call.{Tables};
+ghost use Rattle.tables.specs.Steps.{with_chosen};
 
 use meeting::segment::Rulings;
 use params::settings::RulingsParams;
 use table_questions::guard;
+use table_questions::lent::Lists;
 
-// The number of the first missed question, 0 where none is, and how many sets, tables and free rulings there are.
+// C's struct: the number of the first missed question, 0 where none is, and how many sets, tables and free rulings there are.
 #[repr(C)]
 #[derive(Clone, Copy)]
 pub struct Answer {
@@ -76,45 +79,57 @@ pub fn tables(
           keys = keys.new;
         }) result }
 {
-    let n = rects.len() / 4;
-    let room = guard::room_for_tables(
-        n,
-        numbers.len(),
-        bounds.len() / 4,
-        rows.len(),
-        columns.len(),
-        rulings.len(),
-        shares.len(),
-    ) & guard::room_for_indexes(
-        n,
-        members.len(),
-        ends.len(),
-        free.len(),
-        chosen.len(),
-        parents.len(),
-        work.len(),
-        keys.len(),
-    );
-    let number = guard::missed(xheight, p, rects, directions, room);
-    if number != 0 {
+    let mut lists = Lists {
+        members,
+        ends,
+        numbers,
+        bounds,
+        rows,
+        columns,
+        rulings,
+        shares,
+        free,
+        parents,
+        work,
+        keys,
+    };
+    find_tables(xheight, p, rects, directions, chosen, &mut lists)
+}
+
+// The same, over the struct of the lists.
+fn find_tables(
+    xheight: f64,
+    p: RulingsParams,
+    rects: &[u32],
+    directions: &[u32],
+    chosen: &mut [u32],
+    lists: &mut Lists,
+) -> Answer
+    ensures answers { Tables (record {
+      xheight = xheight;
+      settings = p;
+      rects = rects.now;
+      directions = directions.now;
+    })
+        (with_chosen (lists_of lists.old) chosen.old) (with_chosen (lists_of lists.new) chosen.new) result }
+    ensures same { Same lists.old lists.new }
+{
+    if let Err(missed) = guard::missed(xheight, p, rects, directions, lists, chosen) {
         return Answer {
-            number,
+            number: missed.number(),
             sets: 0,
             tables: 0,
             free: 0,
         };
     }
+    let n = rects.len() / 4;
     sets::begin(chosen, n);
-    let limits = shapes::limits::limits_of(p, xheight);
     let all = Rulings {
         rects,
         directions,
         chosen: &chosen[..n],
     };
-    let found = inner::find(
-        &all, limits, members, ends, numbers, bounds, rows, columns, rulings, shares, free,
-        parents, work, keys,
-    );
+    let found = inner::find(&all, shapes::limits::limits_of(p, xheight), lists);
     Answer {
         number: 0,
         sets: found.sets,

@@ -1,19 +1,19 @@
-// `unlevel`: a guard computes the number of the first missed question, and a core does the work.
+// `unlevel`: a guard finds the first missed question, and a core does the work.
 #![tactic(auto)]
 
+ghost use Rattle.questions.specs.Missed.{number_in};
 ghost use Rattle.unlevel.specs.Call.{Unlevel};
 
-use layout::sides::Sides;
+use layout::tables::Shears;
 use level_questions::guard;
+use questions::Missed;
 
-// The number of the first missed question, and the page where that is 0.
-pub fn unlevel(sides: Sides, level: &[u8], shear: &[i32], shear_x: &[i32], out: &mut [u8]) -> u32
-    ensures { Unlevel sides level.now shear.now shear_x.now out.old out.new result }
+// The page, where no question is missed. One function for this and `level_gray` would be no plainer, since they share the guard alone.
+#[tactic(auto, using(crate::proofs::Guards::unlevel_refused, crate::proofs::Guards::archived_yes, crate::proofs::Guards::unlevel_accepted))]
+pub fn unlevel(shears: &Shears, level: &[u8], out: &mut [u8]) -> Result<(), Missed>
+    ensures { Unlevel shears.now.sides level.now shears.now.shear.now shears.now.shear_x.now out.old out.new (number_in result) }
 {
-    let number = guard::missed(sides, out.len(), shear, shear_x, level.len());
-    if number != 0 {
-        return number;
-    }
-    unlevelling::unlevel(sides, level, shear, shear_x, out);
-    number
+    guard::missed(shears, out.len(), level.len())?;
+    unlevelling::unlevel(shears, level, out);
+    Ok(())
 }

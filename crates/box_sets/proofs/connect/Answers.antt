@@ -1,18 +1,16 @@
 -- `connect` meets its contract: the roots of all joined pairs are the closed sets, and these are listed over the order that was sorted.
 use mathlib.Core.Path.{◌≡◌, ap, ◌∙◌}
 use mathlib.Core.List.{List}
-use Prim.Native.Nat.{ℕ, ◌≤◌}
+use Prim.Native.Nat.{ℕ}
 use native.Mathlib.Nat.{le_of_eq}
-use native.Mathlib.Omega.{arith}
 use lib.ListN.{length, drop}
 use Rattle.lists.specs.Lists.{concat, written}
 use Rattle.rects.specs.Rects.{count}
 use Rattle.sets.specs.Closed.{Below}
-use Rattle.sets.specs.Steps.{Joins, Listing, Room, root, classes}
+use Rattle.sets.specs.Steps.{Joins, Listing, root, classes}
 use Rattle.sets.specs.Listing.{ends_from}
 use Rattle.sets.proofs.Listings.{joins_closed_sets}
 use Rattle.sets.proofs.Sizes.{classes_total}
-use Rattle.sorted.specs.Steps.{SortRoom}
 use Rattle.sorted.proofs.Arranged.{written_over}
 use Rattle.box_sets.specs.Boxes.{touch, Touch}
 use Rattle.box_sets.specs.Steps.{Connected}
@@ -30,25 +28,6 @@ listed rects limit {q} {os} {m} {e} J kept L =
       ends = L.ends ∙ ap (λ (ss : List (List ℕ)). written (ends_from 0 ss) e) same;
       total = rw same at (le_of_eq all);
     }
-
-room : {n : ℕ} {p : List ℕ} → n ≤ length p → n ≤ 16384 → Room n p
-room h k = record { room = h; small = omega arith }
-
-sort_room : {n : ℕ} {os ws ks : List ℕ} → n ≤ 16384 → n ≤ length os → n ≤ length ws → n ≤ length ks → SortRoom n os ws ks
-sort_room h o w k = record { small = omega arith; order = o; work = w; keys = k }
-
-still : {n a b : ℕ} → n ≤ a → b ≡ a → n ≤ b
-still h e = omega arith
-
-pub join_all-requires : goal.join_all-requires
-join_all-requires c =
-    let pre = c.requires in
-    (pre.0, pre.1, room pre.2 pre.1.few, sort_room pre.1.few pre.3 pre.5 pre.6)
-
-pub list-requires : goal.list-requires
-list-requires c =
-    let pre = c.requires in
-    (c.join_all.ensures.0.parents, still pre.3 c.join_all.auto.order, pre.4, still pre.5 c.join_all.auto.work)
 
 pub returns : goal.returns
 returns c = listed c.args.rects.now c.args.limit c.join_all.ensures.0 c.join_all.ensures.1 c.list.ensures

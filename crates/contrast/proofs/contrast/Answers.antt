@@ -1,7 +1,6 @@
 -- `contrast::contrast` meets its contract: level, sum and count are whole numbers, and `contrasted` is the law of their floats.
 use mathlib.Core.Path.{sym}
 use native.Mathlib.Omega.{arith}
-use native.Mathlib.Nat.{le_of_eq}
 use lib.Dec.{lit≤}
 use lib.ListN.{get_or-replicate}
 use Rattle.paper.specs.Pixels.{samples}
@@ -11,13 +10,9 @@ use Rattle.contrast.proofs.contrast.Goals as goal
 pub sample-n-requires : goal.sample-n-requires
 sample-n-requires c = (c.requires, record { all = lit≤ tt; each = λ v l. get_or-replicate 256 v 0 0 l })
 
-pub level-requires : goal.level-requires
-level-requires c =
-    (omega (arith, c.sample-n.ensures.few), le_of_eq (sym c.sample-n.auto.counts), (samples _ _ _ _ _, sym c.sample-n.ensures.number, c.sample-n.ensures.tallied))
-
 pub returns : goal.returns
 returns c =
     let args = c.args in
     rw (c.from-level.ensures, c.from-sum.ensures, c.from-along.ensures)
-    (contrasted args.raster.now args.w args.h args.r args.horizontal c.level.result c.darkest_sum.result c.along.result c.requires (omega arith)
-    (c.level.ensures (samples args.raster.now args.w args.h args.r args.horizontal) (sym c.sample-n.ensures.number) c.sample-n.ensures.tallied) c.darkest_sum.ensures c.along.ensures)
+    (contrasted args.raster.now args.r args.horizontal c.level.result c.darkest_sum.result c.along.result c.requires (omega arith)
+    (c.level.ensures (samples args.raster.now.pixels args.raster.now.w args.raster.now.h args.r args.horizontal) (sym c.sample-n.ensures.number) c.sample-n.ensures.tallied) c.darkest_sum.ensures c.along.ensures)

@@ -4,7 +4,6 @@ use mathlib.Core.Bool.{Bool, true, false}
 use mathlib.Core.List.{List}
 use Prim.Native.Nat.{ℕ}
 use lib.ListN.{length}
-use Rattle.gaps.proofs.Rooms.{rooms}
 use Rattle.sets.specs.Closed.{Below}
 use Rattle.sets.specs.Steps.{Joins, Listing}
 use Rattle.gaps.proofs.Answers.{accepted, refused}
@@ -20,22 +19,6 @@ answered {values} {gap} t J L = record { answered = accepted t (joins_closed_set
 
 turned_down : {values : List ℕ} {gap : ℕ} {fits : Bool} {p m e w : List ℕ} → fits ≡ false → GapSets values gap fits p m e w p m e w 1 0
 turned_down {values} {gap} t = record { answered = refused t; listed = closed_sets_listed (length values) (touch values gap) }
-
-pub join_all-requires : goal.join_all-requires
-join_all-requires c =
-    let start = c.args in
-    let r =
-    rooms (length start.values.now) (length start.parents.now) (length start.members.now) (length start.ends.now)
-    (length start.work.now) (sym c.room-fits.ensures ∙ c.if-fits.true) in
-    record { room = r.first; small = r.small }
-
-pub list-count-requires : goal.list-count-requires
-list-count-requires c =
-    let start = c.args in
-    let r =
-    rooms (length start.values.now) (length start.parents.now) (length start.members.now) (length start.ends.now)
-    (length start.work.now) (sym c.room-fits.ensures ∙ c.if-fits.true) in
-    (c.join_all.ensures.parents, r.second, r.third, r.fourth)
 
 pub returns-then-fits : goal.returns-then-fits
 returns-then-fits c =

@@ -6,17 +6,11 @@ use Rattle.sets.proofs.Pairs.{pairs_begin, row_next, all_seen}
 use Rattle.gaps.specs.Gaps.{Touch}
 use Rattle.gaps.proofs.join_all.Goals as goal
 
-pub begin-requires : goal.begin-requires
-begin-requires c = c.requires
-
 pub loop-i-init : goal.loop-i-init
 loop-i-init c =
     let a = c.args in
     let n = length a.values.now in
     rw c.begin.ensures (pairs_begin (Below n) (Touch a.values.now a.gap) c.requires (λ i l. l))
-
-pub join_row-requires : goal.join_row-requires
-join_row-requires c = (omega arith, c.loop-i.invariant)
 
 pub loop-i-preserved : goal.loop-i-preserved
 loop-i-preserved c = row_next (Touch c.args.values.now c.args.gap) c.join_row.ensures (omega arith)

@@ -6,7 +6,7 @@ use mathlib.Core.List.{List}
 use Prim.Native.Nat.{ℕ, ◌+◌, ◌<◌}
 use native.Mathlib.Nat.{max_comm, min_comm}
 use native.Mathlib.Omega.{arith}
-use lib.ListN.{length, get_or}
+use lib.ListN.{get_or}
 use Rattle.sets.specs.Closed.{Below}
 use Rattle.sets.specs.Steps.{Joined, Joins, Seen}
 use Rattle.sets.proofs.Pairs.{pair_next}
@@ -22,18 +22,6 @@ turn values gap {i} {j = j} t W later l e J =
     pair_next (Touch values gap) t W (omega arith) l later J (λ f. inl (sym e ∙ f))
     (⊎_elim (λ f. e ∙ f) (λ f. e ∙ near_comm gap (get_or values i 0) (get_or values j 0) ∙ f))
 
-pub loop-j-init : goal.loop-j-init
-loop-j-init c = c.requires.1
-
-pub join_if-requires : goal.join_if-requires
-join_if-requires c =
-    (c.loop-j.invariant.parents, c.requires.0, c.loop-j-test.true)
-
 pub loop-j-preserved : goal.loop-j-preserved
 loop-j-preserved c =
     turn c.args.values.now c.args.gap c.near-touch.result c.loop-j.invariant (omega arith) c.loop-j-test.true c.near-touch.ensures c.join_if.ensures
-
-pub returns : goal.returns
-returns c =
-    let end : c.loop-j.j ≡ length c.args.values.now = omega arith in
-    rw end at c.loop-j.invariant

@@ -11,4 +11,4 @@ pub record Front (f : ℕ → ℕ → ℕ) (from y : ℕ) (out : List ℕ) (k : 
   pub shows : (i : ℕ) → i < k → i < length out → get_or out i 0 ≡ f (from + i) y
 
 abbrev pub invariant-loop-k : goal.invariant-loop-k
-invariant-loop-k l = Front (page_shows l.sides l.gray l.shear) l.from l.y l.out l.k
+invariant-loop-k l = Front (page_shows l.shears.sides l.gray l.shears.shear.now) l.from l.y l.out l.k

@@ -1,10 +1,9 @@
 -- `levelling::level_run` meets its contract: off the page the run is white, and on it the run of a page row.
 use mathlib.Core.Path.{◌≡◌, ap, ◌∙◌}
 use mathlib.Core.Logic.{inl, inr}
-use Prim.Native.Nat.{ℕ, ◌+◌, ◌-◌, ◌*◌, ◌≤◌}
+use Prim.Native.Nat.{ℕ, ◌+◌, ◌-◌, ◌*◌}
 use native.Mathlib.Omega.{arith}
 use lib.ListN.{length, take, drop}
-use Rattle.layout.proofs.Places.{small_product, row_within}
 use Rattle.levelling.proofs.Paint.{off_page, on_page_lem}
 use Rattle.levelling.proofs.level_run.Goals.{Else-sides-row}
 use Rattle.levelling.proofs.level_run.Goals as goal
@@ -14,24 +13,6 @@ returns-then-y-shear c = let a = c.args in off_page a.sides a.gray.now a.shear a
 
 pub returns-then-sides-row : goal.returns-then-sides-row
 returns-then-sides-row c = let a = c.args in off_page a.sides a.gray.now a.shear a.from a.y a.out.now _ (inr (omega arith, omega arith)) (c.fill-then-sides-row.ensures.after (λ y e. e))
-
-room : (c : Else-sides-row) → let a = c.args in ((a.y - a.shear) * a.sides.pw + a.sides.pw ≤ length a.gray.now) × (length a.gray.now ≤ 67108864)
-room c =
-    let a = c.args in
-    let pre = c.requires in
-    (omega (arith, row_within a.sides.pw a.sides.ph {y = a.y - a.shear} c.if-sides-row.false, pre.1.1.0), omega (arith, small_product pre.0 pre.1.0, pre.1.1.0))
-
-pub overflow_mul-start : goal.overflow_mul-start
-overflow_mul-start c = omega (arith, room (goal.at.overflow_mul-start c).Else-sides-row)
-
-pub overflow_add-start : goal.overflow_add-start
-overflow_add-start c = omega (arith, room (goal.at.overflow_add-start c).Else-sides-row)
-
-pub overflow_add-end : goal.overflow_add-end
-overflow_add-end c = omega (arith, room (goal.at.overflow_add-end c).Else-sides-row)
-
-pub slice_bounds-copy_from_slice-end : goal.slice_bounds-copy_from_slice-end
-slice_bounds-copy_from_slice-end c = omega (arith, room (goal.at.slice_bounds-copy_from_slice-end c).Else-sides-row)
 
 pub returns : goal.returns
 returns c =

@@ -35,8 +35,5 @@ module _ {positions o o' : List ℕ} (e : o' ≡ sorted_indexes positions ++ dro
         count = L.count;
       }
 
-pub number-requires : goal.number-requires
-number-requires c = sorted c.sort.ensures c.requires c.sort.auto.out c.sort.auto.work
-
 pub returns : goal.returns
 returns c = numbered c.sort.ensures c.number.ensures

@@ -54,50 +54,22 @@ small : {line n : ℕ} (i : ℕ) → line ≤ prior i → i < n → n < 2 ^ 32 �
 small zero l h k = omega arith
 small (suc i) l h k = omega arith
 
-at_most : {line n : ℕ} (i : ℕ) → line ≤ prior i → i ≤ n → n < 2 ^ 32 → line < 2 ^ 32
-at_most zero l h k = omega arith
-at_most (suc i) l h k = omega arith
-
 pub returns-then-n-eq0 : goal.returns-then-n-eq0
 returns-then-n-eq0 c =
     none c.args.positions.now c.args.limit c.args.numbers.now c.if-n-eq0.true
 
-pub sorted_at-requires : goal.sorted_at-requires
-sorted_at-requires c = (c.requires.1, omega arith)
-
 pub loop-i-init : goal.loop-i-init
 loop-i-init c =
     begun c.args.positions.now c.args.limit c.args.numbers.now c.sorted_at.ensures
-
-pub sorted_at-requires-in-loop-i : goal.sorted_at-requires-in-loop-i
-sorted_at-requires-in-loop-i c = (c.requires.1, c.loop-i-test.true)
 
 pub next_line-line-requires : goal.next_line-line-requires
 next_line-line-requires c =
     let low = line_fits c.args.positions.now c.args.limit c.args.numbers.now c.loop-i.invariant in
     small c.loop-i.i low c.loop-i-test.true c.requires.0.small
 
-pub offset_bounds-numbers-i : goal.offset_bounds-numbers-i
-offset_bounds-numbers-i c = omega (arith, c.loop-i-test.true, c.requires.0.small)
-
-pub bounds-numbers-i : goal.bounds-numbers-i
-bounds-numbers-i c = omega (arith, c.requires.0.numbers)
-
 pub loop-i-preserved : goal.loop-i-preserved
 loop-i-preserved c =
     turn c.args.positions.now c.args.limit c.args.numbers.now c.loop-i.invariant (omega (arith, c.requires.0.numbers)) c.sorted_at-in-loop-i.ensures c.next_line-line.ensures.0 c.next_line-line.ensures.1
-
-pub overflow_cast-result : goal.overflow_cast-result
-overflow_cast-result c =
-    let low = line_fits c.args.positions.now c.args.limit c.args.numbers.now c.loop-i.invariant in
-    let few = at_most c.loop-i.i low (omega arith) c.requires.0.small in
-    omega (arith, few)
-
-pub overflow_add-result : goal.overflow_add-result
-overflow_add-result c =
-    let low = line_fits c.args.positions.now c.args.limit c.args.numbers.now c.loop-i.invariant in
-    let few = at_most c.loop-i.i low (omega arith) c.requires.0.small in
-    omega (arith, few)
 
 pub returns : goal.returns
 returns c =

@@ -77,32 +77,8 @@ module _ {next : List ℕ} {n : ℕ} {members₀ : List ℕ} {root at : ℕ} {me
       let g = w.1 in
       record { content = sym (ap (sets members end) e) ∙ w.0; end = omega arith }
 
-rise : {n : ℕ} {next : List ℕ} {i : ℕ} → Rising n next → i < n → (entry next i ≡ 0 → ⊥) → i < entry next i
-rise {i = i} N l h = ⊎_elim (λ z. absurd (h z)) (λ w. w.0) (N.rises i l)
-
 pub loop-i-init : goal.loop-i-init
 loop-i-init c = start c.requires.1 c.requires.2
-
-pub offset_bounds-members-end : goal.offset_bounds-members-end
-offset_bounds-members-end c = omega (arith, room c.loop-i.invariant)
-
-pub bounds-members-end : goal.bounds-members-end
-bounds-members-end c = room c.loop-i.invariant
-
-pub overflow_add-end : goal.overflow_add-end
-overflow_add-end c = omega (arith, room c.loop-i.invariant)
-
-pub overflow_cast-i : goal.overflow_cast-i
-overflow_cast-i c = omega (arith, c.shared_slice_known-1.given c.loop-i.i)
-
-pub shape_of-members-then-i-eq0 : goal.shape_of-members-then-i-eq0
-shape_of-members-then-i-eq0 c = simp length-set c.loop-i.invariant.long
-
-pub returns-then-i-eq0 : goal.returns-then-i-eq0
-returns-then-i-eq0 c = done c.loop-i.invariant c.if-i-eq0.true
-
-pub loop-i-smaller : goal.loop-i-smaller
-loop-i-smaller c = omega (arith, rise c.requires.0 c.loop-i.invariant.inside c.if-i-eq0.false)
 
 pub loop-i-preserved : goal.loop-i-preserved
 loop-i-preserved c = turn c.loop-i.invariant c.requires.0 c.if-i-eq0.false

@@ -99,9 +99,6 @@ moved P a b c d = rw (a, b, c, d) P
 pub loop-root-init : goal.loop-root-init
 loop-root-init c = let a = c.args in start a.n a.parents.now a.members.now a.ends.now
 
-pub overflow_cast-parents : goal.overflow_cast-parents
-overflow_cast-parents c = omega (arith, c.shared_slice_known-in-loop-root-1.given c.loop-root.root)
-
 turn_at : (c : In-loop-root)
     → let start = c.args in
     Turn start.n start.parents.now start.next.now start.members.now start.ends.now c.loop-root.members c.loop-root.ends c.loop-root.at c.loop-root.count c.loop-root.root

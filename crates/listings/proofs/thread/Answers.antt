@@ -78,27 +78,9 @@ down_one {k} l T = let e : suc (k - 1) ≡ k = omega arith in rw e T
 pub loop-i-init : goal.loop-i-init
 loop-i-init c = start c.requires.1
 
-pub overflow_cast-root : goal.overflow_cast-root
-overflow_cast-root c = omega (arith, c.requires.0.low (c.loop-i.i - 1) (omega arith))
-
-pub offset_bounds-next-root : goal.offset_bounds-next-root
-offset_bounds-next-root c = omega (arith, c.requires.0.low (c.loop-i.i - 1) (omega arith))
-
-pub bounds-next-root : goal.bounds-next-root
-bounds-next-root c = omega (arith, c.requires.0.low (c.loop-i.i - 1) (omega arith))
-
-pub offset_bounds-next-root-then-root-i : goal.offset_bounds-next-root-then-root-i
-offset_bounds-next-root-then-root-i c = omega (arith, c.requires.0.low (c.loop-i.i - 1) (omega arith))
-
-pub bounds-next-root-then-root-i : goal.bounds-next-root-then-root-i
-bounds-next-root-then-root-i c = simp length-set (omega (arith, c.requires.0.low (c.loop-i.i - 1) (omega arith)))
-
 pub loop-i-preserved-then-root-i : goal.loop-i-preserved-then-root-i
 unfolding next'
 loop-i-preserved-then-root-i c = threaded c.requires.0 (omega arith) (omega arith) (down_one c.loop-i-test.true c.loop-i.invariant) c.if-root-i.true
 
 pub loop-i-preserved : goal.loop-i-preserved
 loop-i-preserved c = at_root c.requires.0 (omega arith) (omega arith) (down_one c.loop-i-test.true c.loop-i.invariant) c.if-root-i.false
-
-pub returns : goal.returns
-returns c = record { room = omega arith; after = λ j l. c.loop-i.invariant.above j (omega arith) l }

@@ -54,9 +54,6 @@ prepared c t = ready (sym (found c) ∙ t)
 pub join_pairs-requires : goal.join_pairs-requires
 join_pairs-requires c = let r = prepared (goal.at.join_pairs-requires c).After-indexes_below c.if-fits.true in (r.parents, r.indexes)
 
-pub list-count-requires : goal.list-count-requires
-list-count-requires c = let r = prepared (goal.at.list-count-requires c).After-indexes_below c.if-fits.true in (c.join_pairs.ensures.parents, r.members, r.ends, r.work)
-
 pub returns-then-fits : goal.returns-then-fits
 returns-then-fits c = answered (sym (found (goal.at.returns-then-fits c).After-indexes_below) ∙ c.if-fits.true) c.join_pairs.ensures c.list-count.ensures
 

@@ -5,7 +5,7 @@ use Prim.Native.Nat.{ℕ}
 use native.Mathlib.Omega.{arith}
 use lib.Ieee.{Float}
 use Rattle.params.specs.declared.settings.RulingsParams.{RulingsParams}
-use Rattle.printed_rulings.proofs.split.Invariants.{Progress, begin, done, low_dark, low_pale, on_dark, on_pale}
+use Rattle.printed_rulings.proofs.split.Invariants.{Progress, low_dark, low_pale, on_dark, on_pale}
 use Rattle.printed_rulings.proofs.split.Goals.{then-is_printed, else-is_printed}
 use Rattle.printed_rulings.proofs.split.Goals as goal
 
@@ -14,41 +14,15 @@ moved : {p : RulingsParams} {cs : List Float} {ps fs ps' ps'' fs' fs'' : List �
     → ps'' ≡ ps' → fs'' ≡ fs' → a' ≡ a → b' ≡ b → Progress p cs ps fs ps'' fs'' a' b' k
 moved P x y u v = rw (x, y, u, v) P
 
-pub loop-k-init : goal.loop-k-init
-loop-k-init c = begin c.args.p c.args.contrasts.now c.args.printed.now c.args.faint.now
-
-pub overflow_cast-printed : goal.overflow_cast-printed
-overflow_cast-printed c =
-    omega (arith, c.loop-k-test.true, c.requires.few, low_dark c.args.p c.args.contrasts.now c.loop-k.invariant)
-
-pub offset_bounds-printed-dark : goal.offset_bounds-printed-dark
-offset_bounds-printed-dark c =
-    omega (arith, c.loop-k-test.true, c.requires.few, low_dark c.args.p c.args.contrasts.now c.loop-k.invariant)
-
 pub bounds-printed-dark : goal.bounds-printed-dark
 bounds-printed-dark c =
     let P = c.loop-k.invariant in
     omega (arith, c.loop-k-test.true, c.requires.printed, P.dark.long, low_dark c.args.p c.args.contrasts.now P)
 
-pub overflow_add-dark : goal.overflow_add-dark
-overflow_add-dark c =
-    omega (arith, c.loop-k-test.true, c.requires.few, low_dark c.args.p c.args.contrasts.now c.loop-k.invariant)
-
-pub overflow_cast-faint : goal.overflow_cast-faint
-overflow_cast-faint c = omega (arith, c.loop-k-test.true, c.requires.few)
-
-pub offset_bounds-faint-pale : goal.offset_bounds-faint-pale
-offset_bounds-faint-pale c =
-    omega (arith, c.loop-k-test.true, c.requires.few, low_pale c.args.p c.args.contrasts.now c.loop-k.invariant)
-
 pub bounds-faint-pale : goal.bounds-faint-pale
 bounds-faint-pale c =
     let P = c.loop-k.invariant in
     omega (arith, c.loop-k-test.true, c.requires.faint, P.pale.long, low_pale c.args.p c.args.contrasts.now P)
-
-pub overflow_add-pale : goal.overflow_add-pale
-overflow_add-pale c =
-    omega (arith, c.loop-k-test.true, c.requires.few, low_pale c.args.p c.args.contrasts.now c.loop-k.invariant)
 
 pub loop-k-preserved : goal.loop-k-preserved
 loop-k-preserved c =
@@ -59,6 +33,3 @@ loop-k-preserved c =
       | then-is_printed w ↦ moved (on_dark c.args.p c.args.contrasts.now P l c.requires.printed e w.if-is_printed.true) w.printed-is w.faint-is w.dark-is w.pale-is
       | else-is_printed w ↦ moved (on_pale c.args.p c.args.contrasts.now P l c.requires.faint e w.if-is_printed.false) w.printed-is w.faint-is w.dark-is w.pale-is
     ]
-
-pub returns : goal.returns
-returns c = done c.args.p c.args.contrasts.now c.loop-k.invariant (omega arith)

@@ -3,12 +3,10 @@ use mathlib.Core.Path.{◌≡◌, refl, sym, ap, ap₂, ◌∙◌}
 use mathlib.Core.Bool.{Bool, true, ◌&&◌}
 use mathlib.Core.List.{List}
 use Prim.Native.Nat.{ℕ, ◌+◌}
-use native.Mathlib.Omega.{arith}
 use Rattle.lists.specs.Lists.{every_below}
 use Rattle.lists.proofs.Every.{every_more, every_fails}
 use Rattle.rects.specs.Rects.{count, inside, rect_at}
 use Rattle.rects.specs.declared.Rect.{Rect}
-use Rattle.rects.proofs.Questions.{has_numbers}
 use Rattle.rects.proofs.all_inside.Goals as goal
 
 -- nothing passed yet, and one rectangle more
@@ -27,9 +25,6 @@ more w h k rects e f g = every_more k (λ j. inside w h (rect_at rects j)) ∙ a
 pub loop-k-init : goal.loop-k-init
 loop-k-init c = none _
 
-pub rect_at-requires : goal.rect_at-requires
-rect_at-requires c = has_numbers _ _ c.loop-k-test.true
-
 pub returns-then-not-is_inside : goal.returns-then-not-is_inside
 returns-then-not-is_inside c =
     let a = c.args in
@@ -41,8 +36,3 @@ loop-k-preserved c =
     let a = c.args in
     more a.w a.h c.loop-k.k a.rects.now c.loop-k.invariant
     (asked a.w a.h c.loop-k.k a.rects.now c.is_inside.ensures c.rect_at.ensures) c.if-not-is_inside.false
-
-pub returns : goal.returns
-returns c =
-    let end : c.loop-k.k ≡ count c.args.rects.now = omega arith in
-    sym (rw end at c.loop-k.invariant)

@@ -37,19 +37,8 @@ module _ {n : ℕ} {p q : List ℕ} {i : ℕ} (P : Parents n p) (F : q ≡ writt
 low-at : (c : In-loop-i) → get_or c.loop-i.parents c.loop-i.i 0 ≤ c.loop-i.i
 low-at c = low c.requires c.loop-i.invariant c.loop-i-test.true
 
-pub overflow_cast-up : goal.overflow_cast-up
-overflow_cast-up c = omega (arith, low-at (goal.at.overflow_cast-up c).In-loop-i)
-
-pub offset_bounds-parents-up : goal.offset_bounds-parents-up
-offset_bounds-parents-up c = omega (arith, low-at (goal.at.offset_bounds-parents-up c).In-loop-i)
-
 pub bounds-parents-up : goal.bounds-parents-up
 bounds-parents-up c = omega (arith, low-at (goal.at.bounds-parents-up c).In-loop-i)
 
 pub loop-i-preserved : goal.loop-i-preserved
 loop-i-preserved c = turn c.requires c.loop-i.invariant c.loop-i-test.true
-
-pub returns : goal.returns
-returns c =
-    let end : c.loop-i.i ≡ c.args.n = omega arith in
-    rw end at c.loop-i.invariant

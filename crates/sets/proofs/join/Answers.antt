@@ -4,10 +4,10 @@ use mathlib.Core.List.{List}
 use Prim.Native.Nat.{ℕ, ◌≤◌, ◌<◌, ◌^◌}
 use native.Mathlib.Nat.{le_of_lt}
 use native.Mathlib.Omega.{arith}
-use lib.ListN.{length, length-set}
+use lib.ListN.{length}
 use Rattle.sets.specs.Steps.{Parents, root, SameRoots, Found}
 use Rattle.sets.proofs.Roots.{root_le, same_trans, join_roots, join_swap}
-use Rattle.sets.proofs.join.Goals.{After-slice_known-3-1}
+use Rattle.sets.proofs.join.Goals.{After-find-second}
 use Rattle.sets.proofs.join.Goals as goal
 
 record BothFound (n : ℕ) (p : List ℕ) (a b : ℕ) (q : List ℕ) (x y : ℕ) : Type 0 where
@@ -40,40 +40,34 @@ both {n} {p} {a} {b} pre f g =
       small = g.same.parents.small;
     }
 
-found : (c : After-slice_known-3-1)
+found : (c : After-find-second)
     → let start = c.args in BothFound start.n start.parents.now start.a start.b c.find-second.new.parents c.find-first.result c.find-second.result
 found c = both c.requires c.find-first.ensures c.find-second.ensures
 
 pub overflow_cast-parents : goal.overflow_cast-parents
-overflow_cast-parents c = omega (arith, found (goal.at.overflow_cast-parents c).After-slice_known-3-1)
+overflow_cast-parents c = omega (arith, found (goal.at.overflow_cast-parents c).After-find-second)
 
 pub offset_bounds-parents-second : goal.offset_bounds-parents-second
-offset_bounds-parents-second c = omega (arith, found (goal.at.offset_bounds-parents-second c).After-slice_known-3-1)
+offset_bounds-parents-second c = omega (arith, found (goal.at.offset_bounds-parents-second c).After-find-second)
 
 pub bounds-parents-second : goal.bounds-parents-second
-bounds-parents-second c = omega (arith, found (goal.at.bounds-parents-second c).After-slice_known-3-1)
+bounds-parents-second c = omega (arith, found (goal.at.bounds-parents-second c).After-find-second)
 
 pub overflow_cast-parents-else-first-second : goal.overflow_cast-parents-else-first-second
-overflow_cast-parents-else-first-second c = omega (arith, found (goal.at.overflow_cast-parents-else-first-second c).After-slice_known-3-1)
+overflow_cast-parents-else-first-second c = omega (arith, found (goal.at.overflow_cast-parents-else-first-second c).After-find-second)
 
 pub offset_bounds-parents-first : goal.offset_bounds-parents-first
-offset_bounds-parents-first c = omega (arith, found (goal.at.offset_bounds-parents-first c).After-slice_known-3-1)
+offset_bounds-parents-first c = omega (arith, found (goal.at.offset_bounds-parents-first c).After-find-second)
 
 pub bounds-parents-first : goal.bounds-parents-first
-bounds-parents-first c = omega (arith, found (goal.at.bounds-parents-first c).After-slice_known-3-1)
-
-pub shape_of-parents-then-first-second : goal.shape_of-parents-then-first-second
-shape_of-parents-then-first-second c = simp length-set (c.find-second.auto.parents ∙ c.find-first.auto.parents)
+bounds-parents-first c = omega (arith, found (goal.at.bounds-parents-first c).After-find-second)
 
 pub returns-then-first-second : goal.returns-then-first-second
 returns-then-first-second c =
-    let f = found (goal.at.returns-then-first-second c).After-slice_known-3-1 in
+    let f = found (goal.at.returns-then-first-second c).After-find-second in
     join_roots f.same f.a_below f.b_below f.first f.second (le_of_lt c.if-first-second.true)
-
-pub shape_of-parents-else-first-second : goal.shape_of-parents-else-first-second
-shape_of-parents-else-first-second c = simp length-set (c.find-second.auto.parents ∙ c.find-first.auto.parents)
 
 pub returns-else-first-second : goal.returns-else-first-second
 returns-else-first-second c =
-    let f = found (goal.at.returns-else-first-second c).After-slice_known-3-1 in
+    let f = found (goal.at.returns-else-first-second c).After-find-second in
     join_swap (join_roots f.same f.b_below f.a_below f.second f.first c.if-first-second.false)

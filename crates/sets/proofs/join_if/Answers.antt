@@ -1,12 +1,6 @@
 -- `sets::join_if` meets its contract: it joins, or there is nothing to change, since the two have one parent or don't touch.
-use Rattle.sets.proofs.Roots.{join_none, join_same}
+use Rattle.sets.proofs.Roots.{join_same}
 use Rattle.sets.proofs.join_if.Goals as goal
-
-pub returns-then-parents-a : goal.returns-then-parents-a
-returns-then-parents-a c = rw c.if-touch.true c.join.ensures
 
 pub returns-else-parents-a : goal.returns-else-parents-a
 returns-else-parents-a c = let pre = c.requires in rw c.if-touch.true (join_same pre.0 pre.1 pre.2 c.if-parents-a.false)
-
-pub returns-else-touch : goal.returns-else-touch
-returns-else-touch c = rw c.if-touch.false (join_none c.requires.0)

@@ -11,14 +11,10 @@ use Rattle.lists.proofs.Every.{and_first, and_second}
 use Rattle.rects.specs.Rects.{count}
 use Rattle.sets.specs.Steps.{root, Joined}
 use Rattle.box_widths.specs.Widths.{similar}
-use Rattle.box_sets.specs.Steps.{Sweep, width_at, SweptTo, OneSet, RowDone}
-use Rattle.box_sets.proofs.Rows.{Head, one_set_begins, one_set_next, one_set_more, run_known, pair_tried, row_stops, row_meets_width, row_ends}
+use Rattle.box_sets.specs.Steps.{Sweep, width_at, SweptTo, RowDone}
+use Rattle.box_sets.proofs.Rows.{Head, one_set_next, one_set_more, pair_tried, row_meets_width, row_ends}
 use Rattle.box_sets.proofs.sweep.join_row.Invariants.{Row}
 use Rattle.box_sets.proofs.sweep.join_row.Goals as goal
-
-begun : {rects : List ℕ} {limit : ℕ} {order keys p : List ℕ} {k n from l : ℕ} → SweptTo rects limit order keys p k (k + 1) p → OneSet order k from p → from ≤ n
-    → k < n → l ≡ max from (k + 1) → Row rects limit order keys p k n p true l
-begun B O f h e = record { later = omega arith; swept = rw e (run_known O B); one = λ _. rw e (one_set_begins O) }
 
 module _ {rects : List ℕ} {limit : ℕ} {order keys : List ℕ} {k width last : ℕ} (S : Sweep rects limit order keys) (first : k < count rects)
     (H : Head rects limit keys (get_or order k 0) width last) where
@@ -38,47 +34,6 @@ finished : {rects : List ℕ} {limit : ℕ} {order keys p : List ℕ} {k : ℕ} 
     → l ≤ count rects → SweptTo rects limit order keys p (k + 1) (k + 2) q → r ≡ cond whole l 0 → RowDone rects limit order keys p k q r
 finished {whole = true} W u B e = record { swept = B; up_to = omega arith; one = rw e (one_set_next (W.one refl)) }
 finished {whole = false} W u B e = record { swept = B; up_to = omega arith; one = record { same = λ b h m. absurd (omega arith) } }
-
-pub bounds-order-k : goal.bounds-order-k
-bounds-order-k c = omega (arith, c.requires.3, c.requires.2.sorted.order_room)
-
-pub overflow_cast-i : goal.overflow_cast-i
-overflow_cast-i c = omega (arith, c.requires.2.sorted.known c.args.k c.requires.3, c.requires.1.few)
-
-pub size_at-width-requires : goal.size_at-width-requires
-size_at-width-requires c = (c.requires.1, c.requires.2.sorted.known c.args.k c.requires.3)
-
-pub bounds-keys-i : goal.bounds-keys-i
-bounds-keys-i c = omega (arith, c.requires.2.sorted.known c.args.k c.requires.3, c.requires.2.sorted.keys_room)
-
-pub overflow_add-last : goal.overflow_add-last
-overflow_add-last c =
-    omega (arith, c.requires.2.small (get_or c.args.order.now c.args.k 0) (c.requires.2.sorted.known c.args.k c.requires.3), c.requires.0)
-
-pub loop-l-init : goal.loop-l-init
-loop-l-init c = begun c.requires.4 c.requires.6 c.requires.5 c.requires.3 (grind (arith, common_steps))
-
-pub bounds-order-l : goal.bounds-order-l
-bounds-order-l c = omega (arith, c.loop-l-test.true, c.requires.2.sorted.order_room)
-
-pub overflow_cast-j : goal.overflow_cast-j
-overflow_cast-j c = omega (arith, c.requires.2.sorted.known c.loop-l.l c.loop-l-test.true, c.requires.1.few)
-
-pub bounds-keys-j : goal.bounds-keys-j
-bounds-keys-j c = omega (arith, c.requires.2.sorted.known c.loop-l.l c.loop-l-test.true, c.requires.2.sorted.keys_room)
-
-pub returns-then-last-keys : goal.returns-then-last-keys
-returns-then-last-keys c =
-    let pre = c.requires in
-    finished c.loop-l.invariant (omega arith) (row_stops pre.2 pre.3 (record { wide = c.size_at-width.ensures; reaches = refl }) c.loop-l.invariant.swept c.loop-l-test.true c.if-last-keys.true) c.known_to.ensures
-
-pub size_at-other-requires : goal.size_at-other-requires
-size_at-other-requires c = (c.requires.1, c.requires.2.sorted.known c.loop-l.l c.loop-l-test.true)
-
-pub join_similar-whole-requires : goal.join_similar-whole-requires
-join_similar-whole-requires c =
-    let pre = c.requires in
-    (c.loop-l.invariant.swept.before.parents, pre.2.sorted.known c.args.k pre.3, pre.2.sorted.known c.loop-l.l c.loop-l-test.true)
 
 pub returns-then-other-width : goal.returns-then-other-width
 returns-then-other-width c =

@@ -3,4 +3,4 @@ use Rattle.contrast.specs.Steps.{Darkened}
 use Rattle.contrast.proofs.columns.darken_rows.Given as goal
 
 abbrev pub invariant-loop-k : goal.invariant-loop-k
-invariant-loop-k l = Darkened l.raster l.start l.n l.k l.w l.least
+invariant-loop-k l = Darkened l.pixels l.start l.n l.k l.w l.least

@@ -1,5 +1,5 @@
 -- `contrast::columns::sum_of` meets its contract: `sum` is that of the values before the next.
-use mathlib.Core.Path.{◌≡◌, refl, ap}
+use mathlib.Core.Path.{refl, ap}
 use native.Mathlib.Omega.{arith}
 use mathlib.Core.List.{map}
 use lib.ListN.{get_or}
@@ -23,8 +23,3 @@ loop-v-preserved c =
       omega (arith, c.from-sum.ensures, e),
       omega (arith, c.loop-v.invariant.1, c.from-sum.ensures, e, ap total (values_more (λ k. get_or values k 0) i), total_more (map (λ k. get_or values k 0) (below i)) x),
     )
-
-pub returns : goal.returns
-returns c =
-    let end : c.loop-v.v-index ≡ c.args.n = omega (arith, length-take c.args.n c.args.values.now) in
-    rw end at c.loop-v.invariant.1

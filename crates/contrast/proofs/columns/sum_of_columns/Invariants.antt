@@ -6,7 +6,7 @@ use Rattle.contrast.specs.Steps.{columns_darkest}
 use Rattle.contrast.proofs.columns.sum_of_columns.Given as goal
 
 abbrev pub invariant-loop-i : goal.invariant-loop-i
-invariant-loop-i l = (l.i ≤ l.n) × (l.sum ≤ 255 * l.i) × (l.sum ≡ total (columns_darkest l.raster l.start l.i l.rows l.w))
+invariant-loop-i l = (l.i ≤ l.n) × (l.sum ≤ 255 * l.i) × (l.sum ≡ total (columns_darkest l.raster.pixels l.start l.i l.rows l.raster.w))
 
 abbrev pub decreases-loop-i : goal.decreases-loop-i
 decreases-loop-i l = l.n - l.i

@@ -17,14 +17,8 @@ pub loop-p-preserved : goal.loop-p-preserved
 loop-p-preserved c =
     let a = c.args in
     let k = c.loop-p.p-index in
-    let before : k < a.n = omega (arith, part_length a.raster.now a.start a.n c.requires) in
-    let xs = line a.raster.now a.start k 1 in
-    let p = get_or a.raster.now (a.start + k) 0 in
-    let next : darkest_of (line a.raster.now a.start (k + 1) 1) ≡ min (darkest_of xs) p = ap darkest_of (row_more a.raster.now a.start k) ∙ darkest_more xs p in
-    omega (arith, next, c.min-least.ensures, part_pixel a.raster.now a.start a.n k before)
-
-pub returns : goal.returns
-returns c =
-    let a = c.args in
-    let end : c.loop-p.p-index ≡ a.n = omega (arith, part_length a.raster.now a.start a.n c.requires) in
-    rw end at c.loop-p.invariant
+    let before : k < a.n = omega (arith, part_length a.pixels.now a.start a.n c.requires) in
+    let xs = line a.pixels.now a.start k 1 in
+    let p = get_or a.pixels.now (a.start + k) 0 in
+    let next : darkest_of (line a.pixels.now a.start (k + 1) 1) ≡ min (darkest_of xs) p = ap darkest_of (row_more a.pixels.now a.start k) ∙ darkest_more xs p in
+    omega (arith, next, c.min-least.ensures, part_pixel a.pixels.now a.start a.n k before)

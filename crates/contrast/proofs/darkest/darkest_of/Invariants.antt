@@ -5,4 +5,4 @@ use Rattle.paper.specs.Steps.{line}
 use Rattle.contrast.proofs.darkest.darkest_of.Given as goal
 
 abbrev pub invariant-loop-p : goal.invariant-loop-p
-invariant-loop-p l = l.least ≡ darkest_of (line l.raster l.start l.p-index 1)
+invariant-loop-p l = l.least ≡ darkest_of (line l.pixels l.start l.p-index 1)

@@ -1,5 +1,5 @@
 -- `contrast::darkest::sum_of_rows` meets its contract: after i turns `sum` is that of the first i rows.
-use mathlib.Core.Path.{◌≡◌, refl}
+use mathlib.Core.Path.{refl}
 use Prim.Native.Nat.{◌+◌, ◌*◌, ◌≤◌}
 use native.Mathlib.Omega.{arith}
 use lib.ListN.{length}
@@ -14,35 +14,18 @@ unfolding total
 loop-i-init c = (omega arith, refl)
 
 -- the next row lies in the raster
-inside : (c : In-loop-i) → c.args.start + c.loop-i.i * c.args.w + c.args.columns ≤ length c.args.raster.now
-inside c = c.requires.1 c.loop-i.i c.loop-i-test.true
-
-pub overflow_mul-i : goal.overflow_mul-i
-overflow_mul-i c = omega (arith, inside c)
-
-pub overflow_add-start : goal.overflow_add-start
-overflow_add-start c = omega (arith, inside c)
-
-pub darkest_of-requires : goal.darkest_of-requires
-darkest_of-requires c = inside c
+inside : (c : In-loop-i) → c.args.start + c.loop-i.i * c.raster.inside.w + c.args.columns ≤ length c.raster.inside.pixels.now
+inside c = let R = rw (← c.raster.view_is) at c.requires in R.1 c.loop-i.i c.loop-i-test.true
 
 byte : (c : After-darkest_of) → c.darkest_of.result ≤ 255
 byte c =
     let start = c.args in
-    rw c.darkest_of.ensures (darkest_le (line start.raster.now (start.start + c.loop-i.i * start.w) start.columns 1))
-
-pub overflow_add-sum : goal.overflow_add-sum
-overflow_add-sum c = omega (arith, c.from-sum.ensures, byte (goal.at.overflow_add-sum c).After-darkest_of, c.requires.0)
+    rw c.darkest_of.ensures (darkest_le (line c.raster.inside.pixels.now (start.start + c.loop-i.i * c.raster.inside.w) start.columns 1))
 
 pub loop-i-preserved : goal.loop-i-preserved
 loop-i-preserved c =
     let start = c.args in
     let b = byte (goal.at.loop-i-preserved c).After-darkest_of in (
       omega (arith, c.from-sum.ensures),
-      omega (arith, c.loop-i.invariant.1, c.from-sum.ensures, c.darkest_of.ensures, sum_more start.raster.now start.start c.loop-i.i start.columns start.w),
+      omega (arith, c.loop-i.invariant.1, c.from-sum.ensures, c.darkest_of.ensures, sum_more c.raster.inside.pixels.now start.start c.loop-i.i start.columns c.raster.inside.w),
     )
-
-pub returns : goal.returns
-returns c =
-    let end : c.loop-i.i ≡ c.args.n = omega arith in
-    rw end at c.loop-i.invariant.1

@@ -6,4 +6,4 @@ use Rattle.contrast.specs.Steps.{rows_darkest}
 use Rattle.contrast.proofs.darkest.sum_of_rows.Given as goal
 
 abbrev pub invariant-loop-i : goal.invariant-loop-i
-invariant-loop-i l = (l.sum ≤ 255 * l.i) × (l.sum ≡ total (rows_darkest l.raster l.start l.i l.columns l.w))
+invariant-loop-i l = (l.sum ≤ 255 * l.i) × (l.sum ≡ total (rows_darkest l.pixels l.start l.i l.columns l.w))

@@ -5,16 +5,9 @@ use Rattle.meeting.specs.Segments.{ruling}
 use Rattle.crossings.proofs.Crossing.{none_tried, all_tried}
 use Rattle.crossings.proofs.connect.join_all.Goals as goal
 
-pub begin-requires : goal.begin-requires
-begin-requires c = rw c.len-n.ensures.0 c.requires.2
-
 pub loop-i-init : goal.loop-i-init
 loop-i-init c =
     rw (c.begin.ensures, c.len-n.ensures.0) (none_tried c.args.join (ruling c.args.rulings.now) (length c.args.rulings.now.chosen) c.requires.2)
-
-pub join_row-requires : goal.join_row-requires
-join_row-requires c =
-    record { join_bound = (c.requires.0, c.requires.1, omega (arith, c.len-n.ensures.0)); joins = c.loop-i.invariant }
 
 pub returns : goal.returns
 returns c =

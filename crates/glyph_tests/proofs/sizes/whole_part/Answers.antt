@@ -11,9 +11,3 @@ truncating_f64_to_u64-requires c = record { lower_bound = of_true c.if-x.true; u
 
 pub returns-then-x-2 : goal.returns-then-x-2
 returns-then-x-2 c n small h = below_whole_part c.args.x n small (omega (arith, h, c.truncating_f64_to_u64.ensures))
-
-pub returns-else-x-2 : goal.returns-else-x-2
-returns-else-x-2 c n small h = absurd (omega arith)
-
-pub returns-else-x : goal.returns-else-x
-returns-else-x c n small h = absurd (omega arith)

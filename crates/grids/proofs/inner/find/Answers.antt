@@ -1,31 +1,25 @@
 -- `inner::find` meets its contract: the member list gives each closed set back, and the passes go through them.
-use Rattle.std.specs.Prelude.{◌≡◌, ℕ, ◌≤◌}
 use native.Mathlib.Omega.{arith}
 use Rattle.grids.proofs.Filling.{set_is, sets_in, filled}
 use Rattle.grids.proofs.inner.find.Goals as goal
 
-still : {n a b : ℕ} → n ≤ a → b ≡ a → n ≤ b
-still h e = omega arith
-
-pub connect-sets-requires : goal.connect-sets-requires
-connect-sets-requires c =
-    (c.requires.0, c.requires.1, c.requires.2.parents, c.requires.2.members, c.requires.2.ends, c.requires.2.work, c.requires.2.keys)
-
 pub read_sets-requires : goal.read_sets-requires
-read_sets-requires c = (
-  c.requires.1,
-  sets_in c.args.rects.now c.args.limit c.connect-sets.ensures c.requires.2.members c.requires.2.ends,
-  record { order = still c.requires.2.parents c.connect-sets.auto.parents; work = still c.requires.2.work c.connect-sets.auto.work; keys = still c.requires.2.keys c.connect-sets.auto.keys },
-  c.requires.2.reading,
-)
+read_sets-requires c =
+    let R = c.requires.2 in (
+      c.requires.1,
+      sets_in c.args.rects.now c.args.limit c.connect-count.ensures R.members R.ends,
+      record { order = omega (arith, R.parents, c.connect-count.auto.parents); work = omega (arith, R.work, c.connect-count.auto.work); keys = omega (arith, R.keys, c.connect-count.auto.keys) },
+      R.reading,
+    )
 
 pub choose-grids-requires : goal.choose-grids-requires
 choose-grids-requires c =
-    let S = sets_in c.args.rects.now c.args.limit c.connect-sets.ensures c.requires.2.members c.requires.2.ends in
-    (omega (arith, S.few, c.requires.1.few), omega (arith, S.few, c.requires.2.numbers))
+    let R = c.requires.2 in
+    let S = sets_in c.args.rects.now c.args.limit c.connect-count.ensures R.members R.ends in (omega (arith, S.few, c.requires.1.few), omega (arith, S.few, R.numbers))
 
-pub returns : goal.returns
-returns c =
-    filled c.args.rects.now c.args.limit c.args.least _ _ c.connect-sets.ensures
-    (set_is c.args.rects.now c.args.limit c.connect-sets.ensures c.requires.2.members c.requires.2.ends)
-    c.requires.2.members c.requires.2.ends c.requires.2.reading c.read_sets.ensures c.choose-grids.ensures
+pub returns-clause-filled : goal.returns-clause-filled
+returns-clause-filled c =
+    let R = c.requires.2 in
+    filled c.args.rects.now c.args.limit c.args.least _ _ c.connect-count.ensures
+    (set_is c.args.rects.now c.args.limit c.connect-count.ensures R.members R.ends)
+    R.members R.ends R.reading c.read_sets.ensures c.choose-grids.ensures

@@ -4,6 +4,3 @@ use Rattle.grids.proofs.inner.limit.Goals as goal
 
 pub limit-requires : goal.limit-requires
 limit-requires c = (limits c.args.p c.args.xheight c.requires).align
-
-pub returns : goal.returns
-returns c = c.limit.ensures

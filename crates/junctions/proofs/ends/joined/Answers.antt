@@ -3,12 +3,11 @@ use mathlib.Core.Path.{◌≡◌, sym, ◌∙◌}
 use mathlib.Core.List.{List}
 use Prim.Native.Nat.{ℕ, ◌<◌}
 use native.Mathlib.Omega.{arith}
-use borrow.Author.Rules.{scaled_Fits}
-use lib.ListN.{length, get_or}
+use lib.ListN.{get_or}
 use Rattle.sorted.specs.Steps.{FirstAtLeast}
 use Rattle.meeting.specs.Segments.{ruling}
 use Rattle.meeting.proofs.Rulings.{member_within}
-use Rattle.junctions.proofs.Searching.{search_begin, search_turn, search_stop, search_end, search_found}
+use Rattle.junctions.proofs.Searching.{search_begin, search_stop, search_end, search_found}
 use Rattle.junctions.proofs.ends.joined.Goals as goal
 
 -- the bound as it was worked out
@@ -18,47 +17,13 @@ from_first e F = rw (sym e) F
 past_last : {b b' k : ℕ} → b ≡ b' → b < k → b' < k
 past_last e h = omega arith
 
-pub last_key-last-requires : goal.last_key-last-requires
-last_key-last-requires c = c.requires.0
-
-pub first_key-requires : goal.first_key-requires
-first_key-requires c = c.requires.0
-
-pub first_at_least-first-requires : goal.first_at_least-first-requires
-first_at_least-first-requires c = c.requires.2.ordered
-
 pub loop-k-init : goal.loop-k-init
 loop-k-init c =
     search_begin c.args.join (ruling c.args.rulings.now) c.args.set.now c.args.a c.args.end c.requires.2 (from_first c.first_key.ensures c.first_at_least-first.ensures)
 
-pub offset_bounds-order-k : goal.offset_bounds-order-k
-offset_bounds-order-k c =
-    scaled_Fits c.loop-k.k (length c.args.order.now) 4 (omega (arith, c.loop-k-test.true, c.requires.2.ordered.order_room)) c.well_formed.1.1.1.0.1
-
-pub bounds-order-k : goal.bounds-order-k
-bounds-order-k c = omega (arith, c.loop-k-test.true, c.requires.2.ordered.order_room)
-
-pub overflow_cast-m : goal.overflow_cast-m
-overflow_cast-m c = omega (arith, c.requires.2.ordered.known c.loop-k.k c.loop-k-test.true, c.requires.2.ordered.small)
-
-pub offset_bounds-keys-m : goal.offset_bounds-keys-m
-offset_bounds-keys-m c = omega (arith, c.requires.2.ordered.known c.loop-k.k c.loop-k-test.true, c.requires.2.ordered.small)
-
-pub bounds-keys-m : goal.bounds-keys-m
-bounds-keys-m c = omega (arith, c.requires.2.ordered.known c.loop-k.k c.loop-k-test.true, c.requires.2.ordered.keys_room)
-
 pub returns-then-last-keys : goal.returns-then-last-keys
 returns-then-last-keys c =
     search_stop c.args.join (ruling c.args.rulings.now) c.args.set.now c.args.a c.args.end c.requires.2 c.loop-k.invariant c.loop-k-test.true (past_last c.last_key-last.ensures c.if-last-keys.true)
-
-pub offset_bounds-set-m : goal.offset_bounds-set-m
-offset_bounds-set-m c = omega (arith, c.requires.2.ordered.known c.loop-k.k c.loop-k-test.true, c.requires.2.ordered.small)
-
-pub bounds-set-m : goal.bounds-set-m
-bounds-set-m c = c.requires.2.ordered.known c.loop-k.k c.loop-k-test.true
-
-pub overflow_cast-set : goal.overflow_cast-set
-overflow_cast-set c = omega (arith, c.shared_slice_known-in-loop-k-3-1.given (get_or c.args.order.now c.loop-k.k 0))
 
 pub joined_by-requires : goal.joined_by-requires
 joined_by-requires c =
@@ -67,10 +32,6 @@ joined_by-requires c =
 pub returns-then-joined_by : goal.returns-then-joined_by
 returns-then-joined_by c =
     search_found c.args.join (ruling c.args.rulings.now) c.args.set.now c.args.a c.args.end c.requires.2 c.loop-k-test.true (sym c.joined_by.ensures ∙ c.if-joined_by.true)
-
-pub loop-k-preserved : goal.loop-k-preserved
-loop-k-preserved c =
-    search_turn c.args.join (ruling c.args.rulings.now) c.args.set.now c.args.a c.args.end c.requires.2 c.loop-k.invariant c.loop-k-test.true (sym c.joined_by.ensures ∙ c.if-joined_by.false)
 
 pub returns : goal.returns
 returns c =

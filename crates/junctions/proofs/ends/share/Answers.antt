@@ -22,24 +22,9 @@ one_division : {r : ℕ} (join : ℕ) (s : ℕ → Segment) (set : List ℕ) →
 unfolding share_of
 one_division join s set e = ap (λ (k : ℕ). div binary64 (of_int binary64 (pos k)) (of_int binary64 (pos (2 * length set)))) e
 
-pub write_keys-requires : goal.write_keys-requires
-write_keys-requires c = (c.requires.join_bound.1, c.requires.set_in_bounds.2)
-
-pub joined_ends-joined-requires : goal.joined_ends-joined-requires
-joined_ends-joined-requires c =
-    (c.requires.join_bound.0, c.requires.join_bound.1, record { keyed = c.write_keys.ensures; ordered = c.arrange.ensures.0 })
-
 pub int_to_float-result : goal.int_to_float-result
 int_to_float-result c =
     as_float c.joined_ends-joined.result (small c.args.join (ruling c.args.rulings.now) c.args.set.now c.joined_ends-joined.ensures (omega (arith, c.requires.join_bound.1.short, (given_of c.rulings.view_is c.rulings.invariant).few)))
-
-pub overflow_mul-result : goal.overflow_mul-result
-overflow_mul-result c =
-    omega (arith, c.requires.join_bound.1.short, (given_of c.rulings.view_is c.rulings.invariant).few)
-
-pub int_to_float-result-2 : goal.int_to_float-result-2
-int_to_float-result-2 c =
-    as_float (2 * length c.args.set.now) (omega (arith, c.requires.join_bound.1.short, (given_of c.rulings.view_is c.rulings.invariant).few))
 
 pub returns : goal.returns
 returns c =

@@ -1,5 +1,5 @@
 -- `ends::write_keys` meets its contract: one key more a turn.
-use mathlib.Core.Path.{◌≡◌, ap, ◌∙◌}
+use mathlib.Core.Path.{◌≡◌}
 use mathlib.Core.List.{List}
 use Prim.Native.Nat.{ℕ}
 use lib.ListN.{length, get_or}
@@ -13,9 +13,6 @@ module _ (s : ℕ → Segment) (set : List ℕ) where
   -- the key of the member at a place
   abbrev pub member_key : ℕ → ℕ → Type 0
   member_key k v = v ≡ centre_key (s (get_or set k 0))
-
-  pub read : {a : Segment} {v : ℕ} (k : ℕ) → a ≡ s (get_or set k 0) → v ≡ centre_key a → member_key k v
-  read k e f = f ∙ ap centre_key e
 
 abbrev pub invariant-loop-k : goal.invariant-loop-k
 invariant-loop-k l = Writing (member_key (ruling l.rulings) l.set) (length l.set) l.initial.keys l.keys l.k

@@ -1,5 +1,5 @@
 -- `lanegravel_detect` has the contract of `detect`.
 use Rattle.lanegravel.proofs.detect_call.lanegravel_detect.Goals as goal
 
-pub returns : goal.returns
-returns c = c.detect.ensures
+pub returns-clause-detected : goal.returns-clause-detected
+returns-clause-detected c = c.detect.ensures

@@ -1,21 +1,15 @@
 -- `paper::level::level` meets its contract: `at_least` is the number of samples of at least v, and fewer than half are larger.
 use mathlib.Core.Path.{refl}
-use Prim.Native.Nat.{ℕ, ◌+◌, ◌-◌, ◌^◌, ◌≤◌, ◌<◌}
+use Prim.Native.Nat.{ℕ, ◌+◌, ◌-◌, ◌≤◌, ◌<◌}
 use native.Mathlib.Nat.{sub-add_cancel}
 use native.Mathlib.Omega.{arith}
 use mathlib.Core.List.{List}
 use mathlib.Core.Logic.{inl, inr}
 use lib.ListN.{get_or}
-use Rattle.paper.proofs.Levels.{count_le, brightest, above_zero, next_down, level_is}
+use Rattle.paper.proofs.Levels.{brightest, above_zero, next_down, level_is}
 use Rattle.paper.proofs.level.level.Invariants.{Down}
-use Rattle.paper.proofs.level.level.Goals.{Start, In-loop-at_least}
+use Rattle.paper.proofs.level.level.Goals.{In-loop-at_least}
 use Rattle.paper.proofs.level.level.Goals as goal
-
--- some samples have these counts
-within : (c : Start) → get_or c.args.counts.now 255 0 ≤ c.args.n
-within c =
-    let s = c.requires.2 in
-    omega (arith, count_le s.0 c.args.counts.now s.2 255 (omega arith), s.1)
 
 -- half of them are at least 0
 positive : (c : In-loop-at_least) → 1 ≤ c.loop-at_least.v
@@ -29,30 +23,11 @@ next counts n half v at_least p l few down xs e t =
     let d = down xs e t in
     (rw d.0 (next_down xs counts t v p l), inr (rw (sub-add_cancel p) (rw (← d.0) few)))
 
-within_2 : (c : In-loop-at_least) → (c.loop-at_least.at_least < 2 ^ 32) × (get_or c.args.counts.now (c.loop-at_least.v - 1) 0 < 2 ^ 32)
-within_2 c =
-    let s = c.requires.2 in
-    let small = c.requires.0 in
-    let counts = c.args.counts.now in
-    (omega arith, omega (arith, count_le s.0 counts s.2 (c.loop-at_least.v - 1) (omega arith), s.1))
-
-pub bounds-counts-255 : goal.bounds-counts-255
-bounds-counts-255 c = c.requires.1
-
-pub overflow_cast-at_least : goal.overflow_cast-at_least
-overflow_cast-at_least c = omega (arith, within (goal.at.overflow_cast-at_least c).Start)
-
 pub loop-at_least-init : goal.loop-at_least-init
 loop-at_least-init c = (omega arith, λ xs e t. (brightest xs c.args.counts.now t, inl refl))
 
 pub overflow_sub-v : goal.overflow_sub-v
 overflow_sub-v c = positive c
-
-pub bounds-counts-from : goal.bounds-counts-from
-bounds-counts-from c = omega (arith, c.requires.1, c.from.ensures)
-
-pub overflow_add-at_least : goal.overflow_add-at_least
-overflow_add-at_least c = omega (arith, c.from.ensures, within_2 (goal.at.overflow_add-at_least c).In-loop-at_least)
 
 pub loop-at_least-smaller : goal.loop-at_least-smaller
 loop-at_least-smaller c = omega (arith, positive (goal.at.loop-at_least-smaller c).In-loop-at_least)

@@ -10,19 +10,19 @@ use Rattle.paper.proofs.samples.count_row.Goals.{In-loop-p, After-from}
 use Rattle.paper.proofs.samples.count_row.Goals as goal
 
 before_end : (c : In-loop-p) → c.loop-p.p-index < c.args.n
-before_end c = omega (arith, part_length c.args.raster.now c.args.start c.args.n c.requires.0)
+before_end c = omega (arith, part_length c.args.pixels.now c.args.start c.args.n c.requires.0)
 
 -- the pixel that is counted
-pixel : (c : After-from) → c.from.result ≡ get_or c.args.raster.now (c.args.start + c.loop-p.p-index) 0
-pixel c = c.from.ensures ∙ part_pixel c.args.raster.now c.args.start c.args.n c.loop-p.p-index (before_end (goal.at.After-from c).In-loop-p)
+pixel : (c : After-from) → c.from.result ≡ get_or c.args.pixels.now (c.args.start + c.loop-p.p-index) 0
+pixel c = c.from.ensures ∙ part_pixel c.args.pixels.now c.args.start c.args.n c.loop-p.p-index (before_end (goal.at.After-from c).In-loop-p)
 
 pub overflow_add-counts : goal.overflow_add-counts
 overflow_add-counts c =
-    omega (arith, counted_fits c.args.raster.now c.args.start c.loop-p.p-index c.args.n c.from.result c.args.counts.now c.loop-p.counts (before_end (goal.at.overflow_add-counts c).In-loop-p) (omega arith) c.requires.1 c.loop-p.invariant)
+    omega (arith, counted_fits c.args.pixels.now c.args.start c.loop-p.p-index c.args.n c.from.result c.args.counts.now c.loop-p.counts (before_end (goal.at.overflow_add-counts c).In-loop-p) (omega arith) c.requires.1 c.loop-p.invariant)
 
 pub loop-p-preserved : goal.loop-p-preserved
 loop-p-preserved c =
     let a = c.args in
     let e = pixel (goal.at.loop-p-preserved c).After-from in
-    rw (row_more a.raster.now a.start c.loop-p.p-index, ← e)
-    (counted_more (line a.raster.now a.start c.loop-p.p-index 1) a.counts.now c.loop-p.counts c.from.result (omega arith) (omega (arith, c.requires.1.all)) c.loop-p.invariant)
+    rw (row_more a.pixels.now a.start c.loop-p.p-index, ← e)
+    (counted_more (line a.pixels.now a.start c.loop-p.p-index 1) a.counts.now c.loop-p.counts c.from.result (omega arith) (omega (arith, c.requires.1.all)) c.loop-p.invariant)

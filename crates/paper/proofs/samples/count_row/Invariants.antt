@@ -3,4 +3,4 @@ use Rattle.paper.specs.Steps.{line, Counted}
 use Rattle.paper.proofs.samples.count_row.Given as goal
 
 abbrev pub invariant-loop-p : goal.invariant-loop-p
-invariant-loop-p l = Counted (line l.raster l.start l.p-index 1) l.initial.counts l.counts
+invariant-loop-p l = Counted (line l.pixels l.start l.p-index 1) l.initial.counts l.counts

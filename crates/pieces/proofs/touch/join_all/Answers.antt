@@ -20,20 +20,8 @@ ended : (pieces : List ℕ) (across gap : ℕ) {order keys q : List ℕ} {k : �
     → Joins (count pieces) (Below (count pieces)) (Touch pieces across gap) q
 ended pieces across gap S B h = between_all (sweep_end B h S.sorted.stands) (λ i j di dj t. inr (inl (inr t)))
 
-pub begin-requires : goal.begin-requires
-begin-requires c = c.requires.0
-
-pub arrange-requires : goal.arrange-requires
-arrange-requires c = (c.requires.1, c.requires.2)
-
 pub loop-k-init : goal.loop-k-init
 loop-k-init c = begun c.args.pieces.now c.args.across c.args.gap c.requires.0 c.begin.ensures
-
-pub join_row-requires : goal.join_row-requires
-join_row-requires c = (omega arith, c.requires.1, c.arrange.ensures.0, c.loop-k.invariant)
-
-pub loop-k-preserved : goal.loop-k-preserved
-loop-k-preserved c = let e : c.loop-k.k + 2 ≡ c.loop-k.k + 1 + 1 = omega arith in rw e at c.join_row.ensures
 
 pub returns : goal.returns
 returns c = (ended c.args.pieces.now c.args.across c.args.gap c.arrange.ensures.0 c.loop-k.invariant (omega arith), c.arrange.ensures.1)

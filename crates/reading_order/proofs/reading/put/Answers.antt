@@ -2,9 +2,8 @@
 use mathlib.Core.Path.{◌≡◌, sym, ap, ◌∙◌}
 use mathlib.Core.List.{List}
 use Prim.Native.Nat.{ℕ, ◌≤◌, ◌<◌}
-use native.Mathlib.Omega.{arith}
 use lib.ListN.{length, get_or, take, length-map}
-use lib.Seq.{sets, take_all, length-take-le, get_or-take}
+use lib.Seq.{length-take-le, get_or-take}
 use Rattle.lists.proofs.Keep.{get_d_map}
 use Rattle.reading_order.proofs.Writing.{run_more}
 use Rattle.reading_order.proofs.reading.put.Invariants.{ordered}
@@ -19,22 +18,6 @@ module _ (s order : List ℕ) (room : length s ≤ length order) where
       sym (get_d_map (λ i. get_or s i 0) (take (length s) order) k 0 (rw (length-take-le (length s) order room) h)
       ∙ ap (λ (i : ℕ). get_or s i 0) (get_or-take (length s) order k 0 h))
 
-pub bounds-order-k : goal.bounds-order-k
-bounds-order-k c = omega (arith, c.loop-k-test.true, c.requires.0)
-
-pub overflow_cast-reading : goal.overflow_cast-reading
-overflow_cast-reading c = omega (arith, c.requires.1 c.loop-k.k c.loop-k-test.true, c.well_formed)
-
-pub bounds-set-order : goal.bounds-set-order
-bounds-set-order c = c.requires.1 c.loop-k.k c.loop-k-test.true
-
-pub overflow_add-reading : goal.overflow_add-reading
-overflow_add-reading c =
-    omega (arith, c.loop-k-test.true, c.requires.2, c.well_formed)
-
-pub bounds-reading-at : goal.bounds-reading-at
-bounds-reading-at c = omega (arith, c.loop-k-test.true, c.requires.2)
-
 pub loop-k-preserved : goal.loop-k-preserved
 loop-k-preserved c =
     let s = c.args.set.now in
@@ -42,9 +25,3 @@ loop-k-preserved c =
     let k = c.loop-k.k in
     let h = c.loop-k-test.true in
     run_more (ordered s o) c.args.reading.now c.loop-k.reading c.args.at k (get_or s (get_or o k 0) 0) c.loop-k.invariant (rw (size s o c.requires.0) h) (member s o c.requires.0 k h)
-
-pub returns : goal.returns
-returns c =
-    let s = c.args.set.now in
-    let o = c.args.order.now in
-    c.loop-k.invariant ∙ ap (sets c.args.reading.now c.args.at) (take_all c.loop-k.k (ordered s o) (rw (size s o c.requires.0) c.loop-k-test.false))

@@ -1,12 +1,11 @@
 -- `reading::read_sets` meets its contract: one set more a turn, in the places of its members.
-use mathlib.Core.Path.{◌≡◌, refl, sym, ap, ◌∙◌}
-use mathlib.Core.List.{List, map}
+use mathlib.Core.Path.{◌≡◌, sym, ap, ◌∙◌}
+use mathlib.Core.List.{List}
 use Prim.Native.Nat.{ℕ, ◌+◌, ◌≤◌, ◌<◌}
 use native.Mathlib.Omega.{arith}
 use lib.ListN.{length}
 use lib.Seq.{sets}
-use Rattle.lists.specs.Lists.{below, concat, written}
-use Rattle.sets.specs.Listing.{members_of}
+use Rattle.listings.specs.Listed.{set_of}
 use Rattle.reading_order.specs.Reading.{reading_order}
 use Rattle.reading_order.specs.Steps.{Indexes, SetsIn}
 use Rattle.reading_order.proofs.Writing.{total_next, total_room, total_same, run_written}
@@ -33,14 +32,11 @@ module _ (rects : List ℕ) (f : ℕ → List ℕ) {n m : ℕ} {re re' : List �
             (omega (arith, reading_long rects (f k), end_low));
       }
 
-pub loop-k-init : goal.loop-k-init
-loop-k-init c = record { place = refl; content = refl }
-
 pub read_set-requires : goal.read_set-requires
 read_set-requires c =
-    let f = members_of c.args.members.now c.args.ends.now c.args.count in
-    let I = indexes c.args.rects.now f c.loop-k.invariant c.loop-k-test.true c.requires.1 c.members_of-set.ensures in
-    let low = end_low c.args.rects.now f c.loop-k.invariant c.loop-k-test.true c.requires.1 c.members_of-set.ensures in
+    let f = set_of c.args.sets.now in
+    let I = indexes c.args.rects.now f c.loop-k.invariant c.loop-k-test.true c.requires.1 c.at-set.ensures in
+    let low = end_low c.args.rects.now f c.loop-k.invariant c.loop-k-test.true c.requires.1 c.at-set.ensures in
     let W = c.requires.2 in (
       c.requires.0,
       I,
@@ -50,14 +46,8 @@ read_set-requires c =
 
 pub overflow_add-at : goal.overflow_add-at
 overflow_add-at c =
-    omega (arith, end_low c.args.rects.now (members_of c.args.members.now c.args.ends.now c.args.count) c.loop-k.invariant c.loop-k-test.true c.requires.1 c.members_of-set.ensures, c.requires.0.few)
+    omega (arith, end_low c.args.rects.now (set_of c.args.sets.now) c.loop-k.invariant c.loop-k-test.true c.requires.1 c.at-set.ensures, c.requires.0.few)
 
 pub loop-k-preserved : goal.loop-k-preserved
 loop-k-preserved c =
-    turn c.args.rects.now (members_of c.args.members.now c.args.ends.now c.args.count) c.loop-k.invariant c.loop-k-test.true c.requires.1 c.members_of-set.ensures c.requires.3 c.read_set.ensures
-
-pub returns : goal.returns
-returns c =
-    let f = members_of c.args.members.now c.args.ends.now c.args.count in
-    let end : c.loop-k.k ≡ c.args.count = omega arith in
-    c.loop-k.invariant.content ∙ ap (λ (j : ℕ). written (concat (map (read c.args.rects.now f) (below j))) c.args.reading.now) end
+    turn c.args.rects.now (set_of c.args.sets.now) c.loop-k.invariant c.loop-k-test.true c.requires.1 c.at-set.ensures c.requires.3 c.read_set.ensures

@@ -3,7 +3,7 @@ use mathlib.Core.Path.{◌≡◌}
 use mathlib.Core.List.{List, map}
 use Prim.Native.Nat.{ℕ}
 use Rattle.lists.specs.Lists.{below, concat, written}
-use Rattle.sets.specs.Listing.{members_of}
+use Rattle.listings.specs.Listed.{set_of}
 use Rattle.reading_order.specs.Reading.{reading_order}
 use Rattle.reading_order.proofs.Writing.{total}
 use Rattle.reading_order.proofs.reading.read_sets.Given as goal
@@ -17,4 +17,4 @@ pub record Progress (rects : List ℕ) (f : ℕ → List ℕ) (re re' : List ℕ
   pub content : re' ≡ written (concat (map (read rects f) (below k))) re
 
 abbrev pub invariant-loop-k : goal.invariant-loop-k
-invariant-loop-k l = Progress l.rects (members_of l.members l.ends l.count) l.initial.reading l.reading l.at l.k
+invariant-loop-k l = Progress l.rects (set_of l.sets) l.initial.reading l.reading l.at l.k

@@ -1,14 +1,13 @@
 -- `keys::set_keys` meets its contract: one key more a turn.
-use mathlib.Core.Path.{◌≡◌, refl, sym, ap, ◌∙◌}
+use mathlib.Core.Path.{◌≡◌, sym, ap, ◌∙◌}
 use mathlib.Core.List.{List, map}
 use Prim.Native.Nat.{ℕ, ◌<◌}
 use native.Mathlib.Omega.{arith}
-use borrow.Author.Rules.{scaled_Fits}
 use lib.ListN.{length}
 use Rattle.lists.specs.Lists.{In, below, written}
 use Rattle.rects.specs.declared.Rect.{Rect}
 use Rattle.rects.specs.Rects.{count}
-use Rattle.rects.specs.Steps.{AllInside, Places}
+use Rattle.rects.specs.Steps.{AllInside}
 use Rattle.rects.specs.Around.{around}
 use Rattle.rects.proofs.Questions.{Inside}
 use Rattle.sets.specs.Listing.{members_of}
@@ -16,7 +15,7 @@ use Rattle.ruling_lists.specs.Rulings.{ruling_key}
 use Rattle.ruling_lists.specs.Steps.{Parts}
 use Rattle.ruling_lists.proofs.Runs.{value_written}
 use Rattle.lists.proofs.Keep.{map_map}
-use Rattle.ruling_lists.proofs.Rectangles.{places_known, set_inside}
+use Rattle.ruling_lists.proofs.Rectangles.{set_inside}
 use Rattle.ruling_lists.proofs.keys.set_keys.Invariants.{key}
 use Rattle.ruling_lists.proofs.keys.set_keys.Goals as goal
 
@@ -24,29 +23,12 @@ use Rattle.ruling_lists.proofs.keys.set_keys.Goals as goal
 some : (pieces ms es set' : List ℕ) {n k : ℕ} → Parts pieces ms es n → k < n → set' ≡ members_of ms es n k → (0 < length set') × ((i : ℕ) → In set' i → i < count pieces)
 some pieces ms es set' {n} {k} P l e = rw e (P.some k l, λ i m. P.known k i l m)
 
-placed : (pieces ms es set' : List ℕ) {n k : ℕ} → Parts pieces ms es n → k < n → set' ≡ members_of ms es n k → (0 < length set') × Places pieces set'
-placed pieces ms es set' P l e = let s = some pieces ms es set' P l e in (s.0, places_known pieces set' s.1)
-
 inside : (pieces ms es set' : List ℕ) {n k : ℕ} {r : Rect} → AllInside 8192 8192 pieces → Parts pieces ms es n → k < n → set' ≡ members_of ms es n k → r ≡ around pieces set' → Inside 8192 8192 r
 inside pieces ms es set' A P l e q = let s = some pieces ms es set' P l e in rw q (set_inside pieces set' A s.0 s.1)
-
-pub loop-k-init : goal.loop-k-init
-loop-k-init c = refl
-
-pub bounding-requires : goal.bounding-requires
-bounding-requires c =
-    placed c.args.pieces.now c.args.members.now c.args.ends.now c.members_of-set.result.now c.requires.1 c.loop-k-test.true c.members_of-set.ensures
 
 pub key_of-requires : goal.key_of-requires
 key_of-requires c =
     inside c.args.pieces.now c.args.members.now c.args.ends.now c.members_of-set.result.now c.requires.0 c.requires.1 c.loop-k-test.true c.members_of-set.ensures c.bounding.ensures
-
-pub offset_bounds-keys-k : goal.offset_bounds-keys-k
-offset_bounds-keys-k c =
-    scaled_Fits c.loop-k.k (length c.args.keys.now) 8 (omega (arith, c.loop-k-test.true, c.requires.2)) c.well_formed.1.1.1.1.0.1
-
-pub bounds-keys-k : goal.bounds-keys-k
-bounds-keys-k c = omega (arith, c.loop-k-test.true, c.requires.2)
 
 pub loop-k-preserved : goal.loop-k-preserved
 loop-k-preserved c =

@@ -36,32 +36,6 @@ found pieces across gap {q} {os = os} {ls} {le} J kept L =
       few = subst (λ (ss : List (List ℕ)). length ss ≤ n) (classes_all n (root q) ∙ same) (classes_count n (root q) n);
     }
 
-still : {n a b : ℕ} → n ≤ a → b ≡ a → n ≤ b
-still h e = rw e h
-
-pub join_all-requires : goal.join_all-requires
-join_all-requires c =
-    (c.requires.1, c.requires.0, record { small = c.requires.1.small; order = c.requires.2; work = c.requires.4; keys = c.requires.5 })
-
-pub list-requires : goal.list-requires
-list-requires c =
-    (c.join_all.ensures.0.parents, still c.requires.2 c.join_all.auto.order, c.requires.3, still c.requires.4 c.join_all.auto.work)
-
-pub shape_of-parents : goal.shape_of-parents
-shape_of-parents c = c.list.auto.parents ∙ c.join_all.auto.parents
-
-pub shape_of-listed : goal.shape_of-listed
-shape_of-listed c = c.list.auto.members ∙ c.join_all.auto.order
-
-pub shape_of-listed_ends : goal.shape_of-listed_ends
-shape_of-listed_ends c = c.list.auto.ends
-
-pub shape_of-work : goal.shape_of-work
-shape_of-work c = c.list.auto.work ∙ c.join_all.auto.work
-
-pub shape_of-keys : goal.shape_of-keys
-shape_of-keys c = c.join_all.auto.keys
-
 pub returns : goal.returns
 returns c =
     found c.args.pieces.now c.args.across c.args.gap c.join_all.ensures.0 c.join_all.ensures.1 c.list.ensures

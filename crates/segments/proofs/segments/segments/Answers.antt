@@ -1,11 +1,12 @@
--- `segments::segments` meets its contract: the guard's number, and the core's lists where it is 0.
-use mathlib.Core.Path.{◌≡◌, sym, ◌∙◌}
+-- `segments::segments` meets its contract: what the guard answers, and the core's lists where it misses nothing.
+use mathlib.Core.Path.{◌≡◌, refl, sym, ◌∙◌}
 use Rattle.params.proofs.Limits.{limits}
 use Rattle.questions.specs.Questions.{first_missed}
+use Rattle.questions.proofs.Numbers.{some_number}
 use Rattle.segments.specs.Call.{Given, Lent, questions}
 use Rattle.segments.proofs.Accepted.{asked, settled, ready}
 use Rattle.segments.proofs.Call.{passed, refused}
-use Rattle.segments.proofs.segments.segments.Goals.{After-missed-number, Else-number-ne0, Start}
+use Rattle.segments.proofs.segments.segments.Goals.{Start, In_default}
 use Rattle.segments.proofs.segments.segments.Goals as goal
 
 -- what was given, and what was lent
@@ -30,56 +31,30 @@ lent c =
       keys = a.keys.now;
     }
 
--- the number that the guard gave
-number_is : (c : After-missed-number) → c.missed-number.result ≡ first_missed (questions (given c.before.before.before.before.before.before.before.before.before.before.before.before.before.before) (lent c.before.before.before.before.before.before.before.before.before.before.before.before.before.before))
-number_is c = asked (given c.before.before.before.before.before.before.before.before.before.before.before.before.before.before) (lent c.before.before.before.before.before.before.before.before.before.before.before.before.before.before) c.missed-number.ensures
+-- no question is missed, where the guard gives none
+none : (c : In_default) → 0 ≡ first_missed (questions (given (goal.at.In_default c).Start) (lent (goal.at.In_default c).Start))
+none c = asked (given (goal.at.In_default c).Start) (lent (goal.at.In_default c).Start) c.in_default.ensures
 
--- no question is missed, once the number is 0
-none : (c : Else-number-ne0) → first_missed (questions (given c.before.before.before.before.before.before.before.before.before.before.before.before.before.before.before) (lent c.before.before.before.before.before.before.before.before.before.before.before.before.before.before.before)) ≡ 0
-none c = sym (asked (given c.before.before.before.before.before.before.before.before.before.before.before.before.before.before.before) (lent c.before.before.before.before.before.before.before.before.before.before.before.before.before.before.before) c.missed-number.ensures) ∙ c.if-number-ne0.false
-
-pub returns-then-number-ne0 : goal.returns-then-number-ne0
-returns-then-number-ne0 c = refused (given (goal.at.returns-then-number-ne0 c).Start) (lent (goal.at.returns-then-number-ne0 c).Start) (number_is (goal.at.returns-then-number-ne0 c).After-missed-number) c.if-number-ne0.true
+pub returns-in-Err : goal.returns-in-Err
+returns-in-Err c =
+    let S = (goal.at.returns-in-Err c).Start in
+    refused (given S) (lent S) (asked (given S) (lent S) (c.number.ensures ∙ c.in-Err.ensures)) (λ z. some_number c.in-Err.missed (sym c.number.ensures ∙ z))
 
 pub limit_u32-across-requires : goal.limit_u32-across-requires
-limit_u32-across-requires c = (limits c.args.p c.args.xheight (settled (given (goal.at.limit_u32-across-requires c).Start) (lent (goal.at.limit_u32-across-requires c).Start) (none c))).across
+limit_u32-across-requires c =
+    let S = (goal.at.limit_u32-across-requires c).Start in (limits c.args.p c.args.xheight (settled (given S) (lent S) (sym (none c)))).across
 
 pub limit_u32-gap-requires : goal.limit_u32-gap-requires
-limit_u32-gap-requires c = (limits c.args.p c.args.xheight (settled (given (goal.at.limit_u32-gap-requires c).Start) (lent (goal.at.limit_u32-gap-requires c).Start) (none (goal.at.limit_u32-gap-requires c).Else-number-ne0))).gap
+limit_u32-gap-requires c =
+    let S = (goal.at.limit_u32-gap-requires c).Start in
+    (limits c.args.p c.args.xheight (settled (given S) (lent S) (sym (none (goal.at.limit_u32-gap-requires c).In_default)))).gap
 
 pub rulings-count-requires : goal.rulings-count-requires
-rulings-count-requires c = ready (given (goal.at.rulings-count-requires c).Start) (lent (goal.at.rulings-count-requires c).Start) (none (goal.at.rulings-count-requires c).Else-number-ne0)
-
-pub shape_of-rects : goal.shape_of-rects
-shape_of-rects c = c.rulings-count.auto.rects
-
-pub shape_of-directions : goal.shape_of-directions
-shape_of-directions c = c.rulings-count.auto.directions
-
-pub shape_of-contrasts : goal.shape_of-contrasts
-shape_of-contrasts c = c.rulings-count.auto.contrasts
-
-pub shape_of-members : goal.shape_of-members
-shape_of-members c = c.rulings-count.auto.members
-
-pub shape_of-ends : goal.shape_of-ends
-shape_of-ends c = c.rulings-count.auto.ends
-
-pub shape_of-parents : goal.shape_of-parents
-shape_of-parents c = c.rulings-count.auto.parents
-
-pub shape_of-listed : goal.shape_of-listed
-shape_of-listed c = c.rulings-count.auto.listed
-
-pub shape_of-listed_ends : goal.shape_of-listed_ends
-shape_of-listed_ends c = c.rulings-count.auto.listed_ends
-
-pub shape_of-work : goal.shape_of-work
-shape_of-work c = c.rulings-count.auto.work
-
-pub shape_of-keys : goal.shape_of-keys
-shape_of-keys c = c.rulings-count.auto.keys
+rulings-count-requires c =
+    let S = (goal.at.rulings-count-requires c).Start in ready (given S) (lent S) (sym (none (goal.at.rulings-count-requires c).In_default))
 
 pub returns : goal.returns
 returns c =
-    passed (given (goal.at.returns c).Start) (lent (goal.at.returns c).Start) (number_is (goal.at.returns c).After-missed-number) _ c.if-number-ne0.false (ready (given (goal.at.returns c).Start) (lent (goal.at.returns c).Start) (none (goal.at.returns c).Else-number-ne0)) c.limit_u32-across.ensures c.limit_u32-gap.ensures c.rulings-count.ensures
+    let S = (goal.at.returns c).Start in
+    let z = none (goal.at.returns c).In_default in
+    passed (given S) (lent S) z _ refl (ready (given S) (lent S) (sym z)) c.limit_u32-across.ensures c.limit_u32-gap.ensures c.rulings-count.ensures

@@ -7,6 +7,3 @@ limit-join-requires c = limit_fits (limits c.args.p c.args.xheight c.requires).j
 
 pub limit-cluster-requires : goal.limit-cluster-requires
 limit-cluster-requires c = limit_fits (limits c.args.p c.args.xheight c.requires).line
-
-pub returns : goal.returns
-returns c = λ i. record { join = c.limit-join.ensures i; cluster = c.limit-cluster.ensures i; min_horizontal = c.args.p.table_min_horizontal; min_vertical = c.args.p.table_min_vertical }

@@ -8,8 +8,7 @@ use lib.ListN.{length, get_or, set}
 use Rattle.meeting.specs.declared.segment.Segment.{Segment}
 use Rattle.meeting.specs.Segments.{ruling}
 use Rattle.shapes.specs.Shapes.{in_direction}
-use Rattle.shapes.specs.Steps.{Collected}
-use Rattle.meeting.proofs.Collecting.{Gathering, gather_turn, gather_end}
+use Rattle.meeting.proofs.Collecting.{Gathering, gather_turn}
 use Rattle.shapes.proofs.shape.collect.Given as goal
 
 module _ (h : Bool) (s : ℕ → Segment) (members : List ℕ) where
@@ -21,11 +20,6 @@ module _ (h : Bool) (s : ℕ → Segment) (members : List ℕ) where
   turn {b = b} W l room e f =
       gather_turn (λ i. in_direction h (s i)) (λ i. (s i).centre2 / 2) members b W l room (ap (λ (x : Segment). x.centre2 / 2) e)
       (f ∙ ap (in_direction h) e)
-
-  pub done : {l : List ℕ} {n k : ℕ} → Walk l n k → k ≡ length members → Collected h s members l n
-  done W l =
-      let r = gather_end (λ i. in_direction h (s i)) (λ i. (s i).centre2 / 2) members W l in
-      record { count = r.0; keys = r.1; short = r.2 }
 
 abbrev pub invariant-loop-i : goal.invariant-loop-i
 invariant-loop-i l = Walk l.horizontal (ruling l.rulings) l.set l.keys l.n l.i-index

@@ -12,7 +12,6 @@ use Rattle.lines.proofs.Sorted.{lines_few}
 use Rattle.meeting.specs.declared.segment.Segment.{Segment}
 use Rattle.shapes.specs.Shapes.{lines_of, members, positions}
 use Rattle.shapes.specs.Steps.{Collected, LinesCounted}
-use Rattle.meeting.proofs.Rulings.{given_of}
 use Rattle.shapes.proofs.shape.count_lines.Goals as goal
 
 module _ {h : Bool} {s : ℕ → Segment} {set keys : List ℕ} {n : ℕ} (C : Collected h s set keys n) where
@@ -31,17 +30,6 @@ module _ {h : Bool} {s : ℕ → Segment} {set keys : List ℕ} {n : ℕ} (C : C
         lines = lines;
         few = omega (arith, C.short, lines_few cluster (sorted_positions (positions h s set)) (length (positions h s set)));
       }
-
-pub collect-n-requires : goal.collect-n-requires
-collect-n-requires c =
-    (c.requires.0, c.requires.1)
-
-pub slice_bounds-lines-end-2 : goal.slice_bounds-lines-end-2
-slice_bounds-lines-end-2 c = sym (length-take-le c.collect-n.result c.collect-n.new.keys (omega (arith, c.collect-n.ensures.short, c.requires.1, c.collect-n.auto.keys)))
-
-pub lines-lines-requires : goal.lines-lines-requires
-lines-lines-requires c =
-    room c.collect-n.ensures (omega (arith, c.collect-n.ensures.short, c.requires.1, c.collect-n.auto.keys)) c.requires.2 c.requires.3 (omega (arith, c.requires.0.short, (given_of c.rulings.view_is c.rulings.invariant).few))
 
 pub returns : goal.returns
 returns c = counted c.collect-n.ensures c.lines-lines.ensures

@@ -4,7 +4,6 @@ use mathlib.Core.Bool.{Bool, true, false, ◌&&◌}
 use mathlib.Core.List.{List}
 use Prim.Native.Nat.{ℕ}
 use lib.Dec.{leb}
-use native.Mathlib.Omega.{arith}
 use Rattle.meeting.specs.declared.segment.Segment.{Segment}
 use Rattle.shapes.specs.declared.limits.Limits.{Limits}
 use Rattle.meeting.specs.Segments.{ruling}
@@ -27,13 +26,6 @@ shaped lim s set {h} {k} {v} {l} H W e =
       columns = W.lines;
       few = (H.few, W.few);
     }
-
-pub count_lines-h-requires : goal.count_lines-h-requires
-count_lines-h-requires c = c.requires
-
-pub count_lines-v-requires : goal.count_lines-v-requires
-count_lines-v-requires c =
-    (c.requires.0, omega (arith, c.requires.1, c.count_lines-h.auto.keys), omega (arith, c.requires.2, c.count_lines-h.auto.order), omega (arith, c.requires.3, c.count_lines-h.auto.work))
 
 pub returns : goal.returns
 returns c =

@@ -50,9 +50,6 @@ module _ (rects chosen set : List ℕ) where
   done : {r : Rect} {k : ℕ} → unioned rects r (drop k places) ≡ around rects places → length set ≤ k → r ≡ around rects places
   done {r} {k} W h = sym (unioned_all rects r places k (rw size h)) ∙ W
 
-pub bounds-set-0 : goal.bounds-set-0
-bounds-set-0 c = c.requires.1
-
 pub rect_at-r-requires : goal.rect_at-r-requires
 rect_at-r-requires c = member_within c.args.set.now c.requires.0 0 c.requires.1
 

@@ -10,7 +10,7 @@ use Rattle.lists.proofs.Written.{written_run}
 use Rattle.rects.specs.declared.Rect.{Rect}
 use Rattle.rects.specs.Rects.{numbers_of}
 use Rattle.rects.specs.Around.{around}
-use Rattle.table_lists.specs.Steps.{set_of}
+use Rattle.listings.specs.Listed.{set_of}
 use Rattle.table_lists.specs.Answers.{places_of, bounds_of}
 use Rattle.table_lists.proofs.Strung.{strung, strung_one, strung_size}
 use Rattle.table_lists.proofs.Passes.{taken_more}

@@ -13,7 +13,6 @@ use Rattle.shapes.specs.declared.limits.Limits.{Limits}
 use Rattle.shapes.specs.Shapes.{is_table, has_minima, has_two_lines, lines_of}
 use Rattle.shapes.specs.Steps.{Shaped}
 use Rattle.meeting.specs.Steps.{IndexesBelow}
-use Rattle.meeting.proofs.Rulings.{given_of}
 use Rattle.table_lists.proofs.Passes.{chose_none}
 use Rattle.table_lists.proofs.facts.choose.Invariants.{fits, known, low, moved, refused, table}
 use Rattle.table_lists.proofs.facts.choose.Goals.{In-loop-k, After-at-set, Then-found, then-found, else-found}
@@ -48,33 +47,11 @@ lines c = two_lines c.shape_of-found.ensures c.if-found.true (members (goal.at.T
 pub loop-k-init : goal.loop-k-init
 loop-k-init c = chose_none _ _ _ _ _ _ _
 
-pub shape_of-found-requires-in-loop-k : goal.shape_of-found-requires-in-loop-k
-shape_of-found-requires-in-loop-k c =
-    let m = members (goal.at.shape_of-found-requires-in-loop-k c).After-at-set in
-    let R = c.requires.rooms in
-    (m, omega (arith, m.short, R.keys), omega (arith, m.short, R.order), omega (arith, m.short, R.work))
-
-pub overflow_cast-numbers : goal.overflow_cast-numbers
-overflow_cast-numbers c =
-    omega (arith, c.requires.given.few, (given_of c.rulings.view_is c.rulings.invariant).few)
-
-pub offset_bounds-numbers-tables : goal.offset_bounds-numbers-tables
-offset_bounds-numbers-tables c =
-    omega (arith, place (goal.at.offset_bounds-numbers-tables c).In-loop-k, (given_of c.rulings.view_is c.rulings.invariant).few)
-
 pub bounds-numbers-tables : goal.bounds-numbers-tables
 bounds-numbers-tables c = omega (arith, place (goal.at.bounds-numbers-tables c).In-loop-k, c.requires.rooms.numbers)
 
 pub overflow_sub-rows : goal.overflow_sub-rows
 overflow_sub-rows c = omega (arith, (lines (goal.at.overflow_sub-rows c).Then-found).rows)
-
-pub overflow_cast-rows : goal.overflow_cast-rows
-overflow_cast-rows c =
-    omega (arith, (lines (goal.at.overflow_cast-rows c).Then-found).few_rows, (given_of c.rulings.view_is c.rulings.invariant).few)
-
-pub offset_bounds-rows-tables : goal.offset_bounds-rows-tables
-offset_bounds-rows-tables c =
-    omega (arith, place (goal.at.offset_bounds-rows-tables c).In-loop-k, (given_of c.rulings.view_is c.rulings.invariant).few)
 
 pub bounds-rows-tables : goal.bounds-rows-tables
 bounds-rows-tables c = omega (arith, place (goal.at.bounds-rows-tables c).In-loop-k, c.requires.rooms.rows)
@@ -82,19 +59,8 @@ bounds-rows-tables c = omega (arith, place (goal.at.bounds-rows-tables c).In-loo
 pub overflow_sub-columns : goal.overflow_sub-columns
 overflow_sub-columns c = omega (arith, (lines (goal.at.overflow_sub-columns c).Then-found).columns)
 
-pub overflow_cast-columns : goal.overflow_cast-columns
-overflow_cast-columns c =
-    omega (arith, (lines (goal.at.overflow_cast-columns c).Then-found).few_columns, (given_of c.rulings.view_is c.rulings.invariant).few)
-
-pub offset_bounds-columns-tables : goal.offset_bounds-columns-tables
-offset_bounds-columns-tables c =
-    omega (arith, place (goal.at.offset_bounds-columns-tables c).In-loop-k, (given_of c.rulings.view_is c.rulings.invariant).few)
-
 pub bounds-columns-tables : goal.bounds-columns-tables
 bounds-columns-tables c = omega (arith, place (goal.at.bounds-columns-tables c).In-loop-k, c.requires.rooms.columns)
-
-pub overflow_add-tables : goal.overflow_add-tables
-overflow_add-tables c = omega (arith, place (goal.at.overflow_add-tables c).In-loop-k, (given_of c.rulings.view_is c.rulings.invariant).few)
 
 pub append-at-requires : goal.append-at-requires
 append-at-requires c =
@@ -108,6 +74,3 @@ loop-k-preserved c =
       | then-found w ↦ moved (table S c.loop-k.invariant c.loop-k-test.true c.at-set.ensures R c.shape_of-found.ensures w.if-found.true) w.numbers-is w.rows-is w.columns-is w.free-is w.tables-is w.at-is
       | else-found w ↦ moved (refused S c.loop-k.invariant c.loop-k-test.true c.at-set.ensures R c.shape_of-found.ensures w.if-found.false w.append-at.ensures.0 w.append-at.ensures.1) w.numbers-is w.rows-is w.columns-is w.free-is w.tables-is w.at-is
     ]
-
-pub returns : goal.returns
-returns c = let end : c.loop-k.k ≡ c.args.sets.now.count = omega arith in rw end at c.loop-k.invariant

@@ -6,7 +6,7 @@ use native.Mathlib.Omega.{arith}
 use lib.Ieee.{Float}
 use lib.ListN.{length, get_or, take, set}
 use Rattle.lists.specs.Lists.{written}
-use Rattle.table_lists.specs.Steps.{set_of}
+use Rattle.listings.specs.Listed.{set_of}
 use Rattle.meeting.specs.declared.segment.Segment.{Segment}
 use Rattle.meeting.specs.Segments.{ruling}
 use Rattle.meeting.specs.Meeting.{share_of}

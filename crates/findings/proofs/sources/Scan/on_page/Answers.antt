@@ -12,5 +12,5 @@ rect_to_page-requires c =
 pub returns : goal.returns
 returns c =
     let M = c.self.invariant in
-    let small = corner_small c.self.inside.sides c.self.inside.shear.now c.self.inside.shear_x.now c.args.r M.sheared in
+    let small = corner_small c.self.inside.shears.sides c.self.inside.shears.shear.now c.self.inside.shears.shear_x.now c.args.r M.sheared in
     record { place = rw (← c.self.view_is) c.rect_to_page.ensures; small = rw c.rect_to_page.ensures small }

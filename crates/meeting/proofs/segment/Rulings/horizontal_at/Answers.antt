@@ -2,7 +2,6 @@
 use mathlib.Core.Path.{◌≡◌, refl, ap, ◌∙◌}
 use mathlib.Core.Bool.{Bool, true, false, cond, false≢true}
 use Prim.Native.Nat.{ℕ, ◌+◌}
-use native.Mathlib.Omega.{arith}
 use lib.Dec.{eqb}
 use Rattle.rects.specs.declared.Rect.{Rect}
 use Rattle.meeting.specs.declared.segment.Segment.{Segment}
@@ -25,9 +24,6 @@ horizontal_same r d e = go (eqb d 0) e
 
 same : {a : Segment} {r q : Rect} (d : ℕ) → (segment_of q d).horizontal ≡ true → a ≡ segment_of r 0 → r ≡ q → a ≡ segment_of q d
 same {q = q} d e f g = f ∙ ap (λ (x : Rect). segment_of x 0) g ∙ horizontal_same q d e
-
-pub segment_of-requires : goal.segment_of-requires
-segment_of-requires c = let I = c.rect_at.ensures.1 in (omega (arith, I.wide, I.right), omega (arith, I.high, I.bottom))
 
 pub returns : goal.returns
 returns c = same _ c.requires.1 c.segment_of.ensures c.rect_at.ensures.0

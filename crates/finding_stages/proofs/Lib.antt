@@ -1,2 +1,0 @@
--- Why a stage over bundles leaves what its core leaves.
-mod Sent

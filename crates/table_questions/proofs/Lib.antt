@@ -1,2 +1,0 @@
--- The laws of the guard.
-pub mod InOrder

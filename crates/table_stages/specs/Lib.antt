@@ -1,2 +1,0 @@
--- What a reader must believe of `table_stages`. `Steps` is not needed to read the contracts.
-pub mod Steps
