@@ -562,7 +562,8 @@ static inline struct lanegravel_lists lanegravel_lists_over(void *memory, size_t
  * numbers (tables, grids), parents and order (pieces, glyph boxes), three for values (contrasts, shares,
  * coverages), members and ends (pieces, printed rulings, boxes), four for facts (kinds, a, b, c), eight
  * for scores (log_odds to lengths in the order above), and one
- * for every other. lanegravel_detect_into hands them over by name. */
+ * for every other. The call writes into the lists, and leaves the structs that lend them as they are.
+ * lanegravel_detect_into hands them over by name. */
 struct lanegravel_detect_answer lanegravel_detect(
     size_t page_width, size_t page_height, size_t width, size_t height, uint16_t dpi, double xheight,
     struct lanegravel_rulings_params p, struct lanegravel_fusion_params f,
