@@ -53,10 +53,46 @@ pub record Lent : Type 0 where
 
 -- What the lists hold that are lent.
 abbrev pub rules_of : LentRules → RuleLists
-rules_of l = record { levelled = l.levelled.now; rects = l.rects.now; directions = l.directions.now; contrasts = l.contrasts.now; printed = l.printed.now; faint = l.faint.now; piece_members = l.piece_members.now; piece_ends = l.piece_ends.now; bounds = l.bounds.now; rows = l.rows.now; columns = l.columns.now; rulings = l.rulings.now; shares = l.shares.now; free = l.free.now; printed_members = l.printed_members.now; printed_ends = l.printed_ends.now; numbers = l.numbers.now; parents = l.parents.now; listed = l.listed.now; listed_ends = l.listed_ends.now; order = l.order.now; keys = l.keys.now }
+rules_of l =
+    record {
+      levelled = l.levelled.now;
+      rects = l.rects.now;
+      directions = l.directions.now;
+      contrasts = l.contrasts.now;
+      printed = l.printed.now;
+      faint = l.faint.now;
+      piece_members = l.piece_members.now;
+      piece_ends = l.piece_ends.now;
+      bounds = l.bounds.now;
+      rows = l.rows.now;
+      columns = l.columns.now;
+      rulings = l.rulings.now;
+      shares = l.shares.now;
+      free = l.free.now;
+      printed_members = l.printed_members.now;
+      printed_ends = l.printed_ends.now;
+      numbers = l.numbers.now;
+      parents = l.parents.now;
+      listed = l.listed.now;
+      listed_ends = l.listed_ends.now;
+      order = l.order.now;
+      keys = l.keys.now;
+    }
 
 abbrev pub marks_of : LentMarks → MarkLists
-marks_of l = record { boxes = l.boxes.now; marks = l.marks.now; coverages = l.coverages.now; reading = l.reading.now; members = l.members.now; ends = l.ends.now; numbers = l.numbers.now; parents = l.parents.now; order = l.order.now; keys = l.keys.now }
+marks_of l =
+    record {
+      boxes = l.boxes.now;
+      marks = l.marks.now;
+      coverages = l.coverages.now;
+      reading = l.reading.now;
+      members = l.members.now;
+      ends = l.ends.now;
+      numbers = l.numbers.now;
+      parents = l.parents.now;
+      order = l.order.now;
+      keys = l.keys.now;
+    }
 
 abbrev pub lent : LentRules → LentMarks → LentFindings → Lent
 lent rules marks found = record { rules = rules_of rules; marks = marks_of marks; found = columns_of found }
