@@ -69,14 +69,3 @@ module _ (members ends : List ℕ) (count k : ℕ) where
         begins = b ∙ ap (λ (t : Bool). cond t 0 (start_of ends k)) (sym (ne_eqb (length found) 0 h));
         part = rw e (rw b f.part);
       }
-
--- where a set past the first starts
-pub start_past : (ends : List ℕ) (k : ℕ) → (k ≡ 0 → ⊥) → get_or ends (k - 1) 0 ≡ start_of ends k
-start_past ends zero h = absurd (h refl)
-start_past ends (suc k) h = ap (λ (j : ℕ). get_or ends j 0) (less k)
-  where
-    less : (k : ℕ) → suc k - 1 ≡ k
-    less k = omega arith
-
-pub start_first : (ends : List ℕ) (k : ℕ) → k ≡ 0 → 0 ≡ start_of ends k
-start_first ends k e = ap (start_of ends) (sym e)

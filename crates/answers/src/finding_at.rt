@@ -6,11 +6,12 @@ ghost use Rattle.answers.specs.FindingAt.{of_row, zeros, answer_of};
 use evidence::finding::Row;
 use read_findings::lent::FindingLists;
 
-// 1 and the finding's numbers, or all 0 where there is none.
+// 1 and the finding's numbers, or all 0 where there is none. An `Option` would say it; the C interface needs this form.
 #[repr(C)]
-#[derive(Clone, Copy)]
+#[derive(Clone, Copy, Default)]
 pub struct FindingAtAnswer {
     pub found: u32,
+    // Its number, as C's list of kinds holds it.
     pub kind: u32,
     pub x0: u32,
     pub y0: u32,
@@ -29,57 +30,36 @@ pub struct FindingAtAnswer {
     pub length: f64,
 }
 
-fn of_row(row: Row) -> FindingAtAnswer
-    ensures { result ≡ of_row 1 row }
-{
-    let bbox = row.bbox;
-    let first = row.first;
-    let second = row.second;
-    FindingAtAnswer {
-        found: 1,
-        kind: row.kind,
-        x0: bbox.x0,
-        y0: bbox.y0,
-        x1: bbox.x1,
-        y1: bbox.y1,
-        a: row.a,
-        b: row.b,
-        c: row.c,
-        log_odds: row.log_odds,
-        first_value: first.value,
-        first_threshold: first.threshold,
-        first_llr: first.llr,
-        second_value: second.value,
-        second_threshold: second.threshold,
-        second_llr: second.llr,
-        length: row.length,
+impl From<Row> for FindingAtAnswer {
+    ghost from_gives = { λ row answer. answer ≡ of_row 1 row };
+
+    fn from(row: Row) -> FindingAtAnswer {
+        let bbox = row.bbox;
+        let first = row.first;
+        let second = row.second;
+        FindingAtAnswer {
+            found: 1,
+            kind: row.kind,
+            x0: bbox.x0,
+            y0: bbox.y0,
+            x1: bbox.x1,
+            y1: bbox.y1,
+            a: row.a,
+            b: row.b,
+            c: row.c,
+            log_odds: row.log_odds,
+            first_value: first.value,
+            first_threshold: first.threshold,
+            first_llr: first.llr,
+            second_value: second.value,
+            second_threshold: second.threshold,
+            second_llr: second.llr,
+            length: row.length,
+        }
     }
 }
 
-fn nothing() -> FindingAtAnswer
-    ensures { result ≡ of_row 0 zeros }
-{
-    FindingAtAnswer {
-        found: 0,
-        kind: 0,
-        x0: 0,
-        y0: 0,
-        x1: 0,
-        y1: 0,
-        a: 0,
-        b: 0,
-        c: 0,
-        log_odds: 0.0,
-        first_value: 0.0,
-        first_threshold: 0.0,
-        first_llr: 0.0,
-        second_value: 0.0,
-        second_threshold: 0.0,
-        second_llr: 0.0,
-        length: 0.0,
-    }
-}
-
+// The count stands beside the lists, since C lends them and they may be longer.
 pub fn finding_at<'x>(
     rects: &'x [u32],
     kinds: &'x [u32],
@@ -119,7 +99,7 @@ pub fn finding_at<'x>(
     };
     let answer = read_findings::finding_at(&lists, count, i);
     match answer {
-        Some(f) => of_row(evidence::finding::row_of(f)),
-        None => nothing(),
+        Some(f) => FindingAtAnswer::from(Row::from(f)),
+        None => FindingAtAnswer::default(),
     }
 }

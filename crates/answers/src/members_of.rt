@@ -9,7 +9,8 @@ pub struct MembersOfAnswer {
     pub count: usize,
 }
 
-// A C function can't return a slice, so the part is given by its bounds.
+// A C function can't return a slice, so the part is given by its bounds. The count of sets stands beside the lists, since C's lists
+// may be longer than what is in use.
 pub fn members_of(members: &[u32], ends: &[u32], count: usize, set: usize) -> MembersOfAnswer
     ensures { PartOf members.now ends.now count set result }
 {
@@ -18,14 +19,8 @@ pub fn members_of(members: &[u32], ends: &[u32], count: usize, set: usize) -> Me
     if size == 0 {
         return MembersOfAnswer { start: 0, count: 0 };
     }
-    if set == 0 {
-        return MembersOfAnswer {
-            start: 0,
-            count: size,
-        };
-    }
     MembersOfAnswer {
-        start: ends[set - 1] as usize,
+        start: listings::start_of(ends, set),
         count: size,
     }
 }

@@ -18,6 +18,7 @@ use Rattle.rects.specs.Rects.{width_of, height_of, count, rect_at}
 use Rattle.rects.specs.Steps.{Inside, AllInside}
 use Rattle.rects.specs.declared.Rect.{Rect}
 use Rattle.rects.proofs.Questions.{has_numbers}
+use Rattle.rects.proofs.Strung.{strung_long, strung_at}
 use Rattle.ink.specs.Ink.{Ink}
 use Rattle.glyph_tests.specs.declared.limits.Limits.{Limits}
 use Rattle.glyph_tests.specs.declared.found.CheckBox.{CheckBox}
@@ -96,25 +97,7 @@ module _ (ink : Ink) (l : Limits) (glyphs : List ℕ) where
 -- ---- where the boxes lie
 
 pub rectangles_long : (bs : List CheckBox) → length (frames_of bs) ≡ 4 * length bs
-rectangles_long [] = refl
-rectangles_long (b ∷ bs) = omega (arith, rectangles_long bs)
-
--- rectangle k is that of box k
-pub rectangle_at : (bs : List CheckBox) (k : ℕ) (past : CheckBox) → k < length bs → rect_at (frames_of bs) k ≡ (get_or bs k past).bbox
-rectangle_at [] k past h = absurd (omega arith)
-rectangle_at (b ∷ bs) zero past h = refl
-rectangle_at (b ∷ bs) (suc k) past h = behind ∙ rectangle_at bs k past (omega arith)
-  where
-    shift : (i j : ℕ) → i ≡ suc (suc (suc (suc j))) → get_or (frames_of (b ∷ bs)) i 0 ≡ get_or (frames_of bs) j 0
-    shift i j e = ap (λ (n : ℕ). get_or (frames_of (b ∷ bs)) n 0) e
-
-    behind : rect_at (frames_of (b ∷ bs)) (suc k) ≡ rect_at (frames_of bs) k
-    behind = λ i. record {
-      x0 = shift (4 * suc k) (4 * k) (omega arith) i;
-      y0 = shift (4 * suc k + 1) (4 * k + 1) (omega arith) i;
-      x1 = shift (4 * suc k + 2) (4 * k + 2) (omega arith) i;
-      y1 = shift (4 * suc k + 3) (4 * k + 3) (omega arith) i;
-    }
+rectangles_long = strung_long (λ (b : CheckBox). b.bbox)
 
 module _ (ink : Ink) (l : Limits) (w h : ℕ) where
   -- what is not passed over has a frame
@@ -141,5 +124,5 @@ module _ (ink : Ink) (l : Limits) (w h : ℕ) where
       let here : k < length bs = omega (arith, rectangles_long bs, has_numbers (length (frames_of bs)) k m) in
       let listed : k < length ks = omega (arith, E.as_many) in
       let glyph = E.no_other place (at_in ks k listed) in
-      let is : rect_at (frames_of bs) k ≡ past.bbox = rectangle_at bs k past here ∙ ap (λ (b : CheckBox). b.bbox) (E.box k past listed) in
+      let is : rect_at (frames_of bs) k ≡ past.bbox = strung_at (λ (b : CheckBox). b.bbox) bs k past here ∙ ap (λ (b : CheckBox). b.bbox) (E.box k past listed) in
       subst (Inside w h) (sym is) (box_inside (rect_at glyphs place) (inside place glyph.0) glyph.1)

@@ -1,5 +1,6 @@
 -- The boxes of a page: those of every glyph box that is not passed over, in order, and no others.
 use Rattle.std.specs.Prelude.{◌≡◌, false, not, List, map, ℕ, ◌<◌, Float, length, get_or}
+use Rattle.std.specs.Int.{from_bool}
 use Rattle.lists.specs.Lists.{In, below, keep, concat}
 use Rattle.rects.specs.Rects.{rect_at, numbers_of, count}
 use Rattle.ink.specs.Ink.{Ink}
@@ -32,12 +33,12 @@ pub record EveryBox (ink : Ink) (l : Limits) (glyphs ks : List ℕ) (bs : List C
   pub as_many : length bs ≡ length ks
   pub box : (k : ℕ) (past : CheckBox) → k < length ks → get_or bs k past ≡ box_of ink l (rect_at glyphs (get_or ks k 0))
 
--- What the lists of a page hold: four numbers a box, its mark, its edge coverage.
+-- What the lists of a page hold: four numbers a box, its mark, 1 for a ticked box and 0 for an empty one, its edge coverage.
 abbrev pub frames_of : List CheckBox → List ℕ
 frames_of bs = concat (map (λ b. numbers_of b.bbox) bs)
 
 abbrev pub marks_of : List CheckBox → List ℕ
-marks_of bs = map (λ b. b.mark) bs
+marks_of bs = map (λ b. from_bool b.ticked) bs
 
 abbrev pub coverages_of : List CheckBox → List Float
 coverages_of bs = map (λ b. b.edge_coverage) bs

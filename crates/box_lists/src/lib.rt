@@ -1,38 +1,35 @@
 // The boxes of a page, written as they are found.
 #![tactic(auto)]
 
+pub mod lent;
+
 ghost use Rattle.std.specs.Prelude.{◌≤◌};
 ghost use Rattle.rects.specs.Rects.{count};
-ghost use Rattle.box_lists.specs.Steps.{RoomAt, Stored, Widths, NextWide, Ready, Made};
+ghost use Rattle.box_lists.specs.Steps.{lists_of, Same, RoomAt, Stored, Widths, NextWide, Ready, Made};
 
 use glyph_tests::found::CheckBox;
 use glyph_tests::limits::Limits;
-use ink::Mask;
-use rects::Rect;
+use ink::{Mask, Region};
+use lent::Lists;
 
 // Stores a box after n others, and returns how many there are.
-fn store(
-    rects: &mut [u32],
-    marks: &mut [u32],
-    coverages: &mut [f64],
-    n: usize,
-    found: Option<CheckBox>,
-) -> usize
-    requires { RoomAt n rects.old marks.old coverages.old }
-    ensures { Stored found n rects.old marks.old coverages.old
-        rects.new marks.new coverages.new result }
+fn store(lists: &mut Lists, n: usize, found: Option<CheckBox>) -> usize
+    requires { RoomAt n (lists_of lists.old) }
+    ensures stored { Stored found n (lists_of lists.old) (lists_of lists.new) result }
+    ensures same { Same lists.old lists.new }
 {
     let Some(b) = found else {
         return n;
     };
-    rects::put_rect(rects, n, b.bbox);
-    marks[n] = b.mark;
-    coverages[n] = b.edge_coverage;
+    rects::put_rect(lists.rects, n, b.bbox);
+    // 1 where it is ticked and 0 where it is empty: a number, since C's lists hold it.
+    lists.marks[n] = u32::from(b.ticked);
+    lists.coverages[n] = b.edge_coverage;
     n + 1
 }
 
 // The first glyph box at or past `from` that is at least so wide, and their number where there is none. A narrower one is
-// passed over by its first test, and no more of it is read.
+// passed over by its first test, and no more of it is read. A number and no `Option`, since the walk of `find` stops where the boxes end.
 fn next_wide(glyphs: &[u32], least: u64, from: usize) -> usize
     requires { Widths glyphs.now × (from ≤ count glyphs.now) }
     ensures { NextWide glyphs.now least from result }
@@ -50,17 +47,10 @@ fn next_wide(glyphs: &[u32], least: u64, from: usize) -> usize
 }
 
 // The boxes of a page that passed its questions, and how many there are.
-pub fn find(
-    mask: &Mask,
-    glyphs: &[u32],
-    l: Limits,
-    rects: &mut [u32],
-    marks: &mut [u32],
-    coverages: &mut [f64],
-) -> usize
-    requires { Ready mask.now.bytes mask.now.w glyphs.now l rects.old marks.old coverages.old }
-    ensures { Made mask.now.bytes mask.now.w glyphs.now l rects.old marks.old coverages.old
-        rects.new marks.new coverages.new result }
+pub fn find(mask: &Mask, glyphs: &[u32], l: Limits, lists: &mut Lists) -> usize
+    requires { Ready mask.now.bytes mask.now.w glyphs.now l (lists_of lists.old) }
+    ensures made { Made mask.now.bytes mask.now.w glyphs.now l (lists_of lists.old) (lists_of lists.new) result }
+    ensures same { Same lists.old lists.new }
 {
     let count = glyphs.len() / 4;
     let least = glyph_tests::sizes::whole_part(l.min_size);
@@ -68,8 +58,10 @@ pub fn find(
     let mut k = next_wide(glyphs, least, 0);
     // The walk skips the narrow ones, so it stays a `while`.
     while k < count {
-        let found = glyph_tests::found::test_glyph(mask, rects::rect_at(glyphs, k), l);
-        n = store(rects, marks, coverages, n, found);
+        // Lent again by `&*`, since the borrow checker wants one lifetime of both references of a region.
+        let glyph = Region::new(&*mask, rects::rect_at(glyphs, k));
+        let found = glyph_tests::found::test_glyph(&glyph, l);
+        n = store(lists, n, found);
         k = next_wide(glyphs, least, k + 1);
     }
     n

@@ -1,14 +1,15 @@
 // The joining of boxes along one doubled centre: they are swept in its order, so that each is held only against those behind it whose
 // centre is near.
 ghost use Rattle.std.specs.Prelude.{◌≡◌, cond, ◌+◌, ◌≤◌, ◌<◌, ◌^◌, length, drop};
-ghost use Rattle.rects.specs.Rects.{count};
-ghost use Rattle.sorted.specs.Steps.{SortRoom, InOrder};
+ghost use Rattle.rects.specs.Rects.{count, rect_at};
+ghost use Rattle.sorted.specs.Steps.{SortRoom};
 ghost use Rattle.box_widths.specs.Steps.{PassedBoxes};
-ghost use Rattle.box_sets.specs.Steps.{centre_in, Centred, Sweep, SweptTo, OneSet, RowDone, JoinedSo, JoinedNear};
+ghost use Rattle.box_sets.specs.Steps.{centre_in, Sweep, SweptTo, OneSet, RowDone, JoinedSo, JoinedNear};
 
 use rects::Rect;
 
-// Along which axis a doubled centre is taken: the boxes of a column have that along X in common, those of a row that along Y.
+// Along which axis a doubled centre is taken: the boxes of a column have that along X in common, those of a row that along Y. An enum:
+// callers name the axis, and no test of a box finds it, as one does in `pieces`.
 #[derive(Clone, Copy)]
 pub enum Axis {
     X,
@@ -25,29 +26,15 @@ fn centre2(r: Rect, axis: Axis) -> u64
     }
 }
 
-// Writes the doubled centre of each box.
-fn write_keys(rects: &[u32], axis: Axis, keys: &mut [u64])
-    requires { count rects.now ≤ length keys.old }
-    ensures { Centred rects.now axis keys.new }
+// The doubled centre of box i of a list.
+fn centre2_at(rects: &[u32], i: usize, axis: Axis) -> u64
+    requires { i < count rects.now }
+    ensures { result ≡ centre_in axis (rect_at rects.now i) }
 {
-    let n = rects.len() / 4;
-    for i in 0..n {
-        keys[i] = centre2(rects::rect_at(rects, i), axis);
-    }
+    centre2(rects::rect_at(rects, i), axis)
 }
 
-// The doubled centres of the boxes, and the boxes in the order of those.
-fn arrange(rects: &[u32], axis: Axis, order: &mut [u32], work: &mut [u32], keys: &mut [u64])
-    requires { SortRoom (count rects.now) order.old work.old keys.old }
-    ensures { Centred rects.now axis keys.new × InOrder (count rects.now) keys.new order.new
-        × (drop (count rects.now) order.new ≡ drop (count rects.now) order.old) }
-{
-    let n = rects.len() / 4;
-    write_keys(rects, axis, keys);
-    sorted::arrange(keys, n, order, work);
-}
-
-// The place up to which all are in one set: none, unless the whole row was.
+// The place up to which all are in one set: none, unless the whole row was. A bool, since a row gathers it from joins by `&`.
 fn known_to(whole: bool, end: usize) -> usize
     ensures { result ≡ cond whole end 0 }
 {
@@ -56,7 +43,7 @@ fn known_to(whole: bool, end: usize) -> usize
 
 // Joins the box at place k of the order with every later one that is near and of similar width, up to the first of its own width: what is
 // near past that one is near to that one too. From the first on that is out of reach, none is near. All before place `from` are in one
-// set with it; the result is the same for the next place.
+// set with it; the result is the same for the next place. The limit's bound is a fact beside it: a doubled limit needs more than 32 bits.
 fn join_row(
     rects: &[u32],
     limit: u64,
@@ -107,7 +94,7 @@ pub fn join_near(
         × (drop (count rects.now) order.new ≡ drop (count rects.now) order.old) }
 {
     let n = rects.len() / 4;
-    arrange(rects, axis, order, work, keys);
+    sorted::arrange_by(|i| centre2_at(rects, i, axis), n, order, work, keys);
     let mut known = 0;
     for k in 0..n {
         known = join_row(rects, limit, order, keys, parents, k, known);

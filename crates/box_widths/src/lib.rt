@@ -25,7 +25,8 @@ fn size(r: Rect) -> u32
     r.width()
 }
 
-// The width of box j of a list.
+// The width of box j of a list. That the boxes passed their questions is a fact of the list, here as in the crates above: a struct of the
+// one list would be made anew at each call, and callers have the list alone.
 pub fn size_at(rects: &[u32], j: usize) -> u32
     requires { PassedBoxes rects.now × (j < count rects.now) }
     ensures { result ≡ width_of (rect_at rects.now j) }
@@ -34,6 +35,7 @@ pub fn size_at(rects: &[u32], j: usize) -> u32
 }
 
 // Joins box j with box i, of n, if their widths, which are given, are similar. Are the two in one set now? Two with one parent were before.
+// The number n stands beside the list as in `sets`: there may be fewer boxes than the list has entries.
 pub fn join_similar(
     parents: &mut [u32],
     n: usize,
@@ -46,12 +48,5 @@ pub fn join_similar(
     ensures { Joined n parents.old i j (similar width other) parents.new
         × (result ≡ true → root parents.new i ≡ root parents.new j) }
 {
-    if parents[i] == parents[j] {
-        return true;
-    }
-    if similar(width, other) {
-        sets::join(parents, n, i, j);
-        return true;
-    }
-    false
+    sets::join_if(parents, n, i, j, || similar(width, other))
 }

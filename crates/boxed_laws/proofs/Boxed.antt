@@ -6,6 +6,7 @@ use Prim.Native.Nat.{ℕ, ◌*◌, ◌<◌, ◌≤◌}
 use native.Mathlib.Decide.{dec_lt}
 use native.Mathlib.Omega.{arith}
 use lib.Ieee.{Float}
+use Rattle.std.specs.Int.{from_bool}
 use lib.ListN.{length, get_or, length-map, get_or-eq_default}
 use Rattle.lists.specs.Lists as Lists
 use Rattle.lists.proofs.Keep.{length_below, in_below, below_in, kept_in, at_in}
@@ -89,7 +90,7 @@ module _ (g : Page) (few : count g.glyphs ≤ 16384) (boxes_few : length (Page.b
 
   -- Each box has a mark.
   pub marks_long : length (Page.marks g) ≡ length (Page.boxes g)
-  marks_long = length-map (Page.boxes g) (λ b. b.mark)
+  marks_long = length-map (Page.boxes g) (λ b. from_bool b.ticked)
 
   -- Each box has a coverage.
   pub coverages_long : length (Page.coverages g) ≡ length (Page.boxes g)

@@ -34,10 +34,10 @@ readable mask w h r a b full I =
     record { narrow = a; low = omega (arith, I.bottom); wide = I.wide; high = I.high; right = I.right; bottom = omega (arith, mul_comm h w) }
 
 -- what the core needs, from plain facts: whoever asked the questions that show them, in whatever order and among whatever others
-pub ready : (w h dpi : ℕ) (xheight : Float) (mask glyphs : List ℕ) (p : RulingsParams) {rs ms : List ℕ} {cs : List Float}
+pub ready : (w h dpi : ℕ) (xheight : Float) (mask glyphs : List ℕ) (p : RulingsParams) {lent : Lent}
     → w ≤ 8192 → h ≤ 8192 → length mask ≡ w * h → AllInside w h glyphs → SettingsPassed p xheight
-    → 4 * count glyphs ≤ length rs → count glyphs ≤ length ms → count glyphs ≤ length cs
-    → Ready mask w glyphs (box_limits_of dpi xheight p) rs ms cs
+    → 4 * count glyphs ≤ length lent.rects → count glyphs ≤ length lent.marks → count glyphs ≤ length lent.coverages
+    → Ready mask w glyphs (box_limits_of dpi xheight p) lent
 unfolding box_limits_of
 ready w h dpi xheight mask glyphs p a b full inside S rects marks coverages =
     record {
@@ -50,7 +50,7 @@ ready w h dpi xheight mask glyphs p a b full inside S rects marks coverages =
 
 -- a page that `boxes` accepts
 pub accepted_ready : (g : Given) (l : Lent) → 0 ≡ first_missed (questions g l)
-    → Ready g.ink g.w g.glyphs (box_limits_of g.dpi g.xheight g.settings) l.rects l.marks l.coverages
+    → Ready g.ink g.w g.glyphs (box_limits_of g.dpi g.xheight g.settings) l
 accepted_ready g l none =
     let parts = yes_parts (given_questions g) ((14, has_room g l) ∷ []) (all_yes (questions g l) tt (sym none)) in
     let yes = parts.0 in

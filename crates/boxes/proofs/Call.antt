@@ -11,10 +11,10 @@ use Rattle.box_lists.proofs.EveryBox.{every_box}
 
 module _ (g : Given) (l : Lent) (none : 0 ≡ first_missed (questions g l)) where
   pub accepted : {lim : Limits} (l' : Lent) {n : ℕ} → lim ≡ box_limits_of g.dpi g.xheight g.settings
-      → Made g.ink g.w g.glyphs lim l.rects l.marks l.coverages l'.rects l'.marks l'.coverages n
+      → Made g.ink g.w g.glyphs lim l l' n
       → Boxes g l l' (record { number = 0; count = n })
   accepted l' {n} e L =
-      let M = subst (λ (k : Limits). Made g.ink g.w g.glyphs k l.rects l.marks l.coverages l'.rects l'.marks l'.coverages n) e L in
+      let M = subst (λ (k : Limits). Made g.ink g.w g.glyphs k l l' n) e L in
       record {
         number = none;
         counts = λ i. record { number = 0; count = M.count i };

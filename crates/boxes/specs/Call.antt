@@ -11,6 +11,8 @@ use Rattle.ink.specs.Ink.{ink_at}
 use Rattle.boxes.specs.declared.Answer.{Answer}
 use Rattle.glyph_tests.specs.declared.found.CheckBox.{CheckBox}
 use Rattle.glyph_tests.specs.Limits.{box_limits_of}
+-- The lists that it is lent, by name: the answers, and no others.
+pub use Rattle.box_lists.specs.Lent.{Lent}
 use Rattle.box_lists.specs.Boxes.{chosen, boxes_of, EveryBox, frames_of, marks_of, coverages_of}
 
 -- What the call is given; w and h are the levelled sides.
@@ -23,17 +25,12 @@ pub record Given : Type 0 where
   pub ink : List ℕ
   pub glyphs : List ℕ
 
--- The lists that it is lent, by name: answers alone.
-pub record Lent : Type 0 where
-  pub rects : List ℕ
-  pub marks : List ℕ
-  pub coverages : List Float
-
 -- Question 14: room for as many boxes as glyph boxes.
+abbrev pub room_for : ℕ → Lent → Bool
+room_for n l = leb (4 * n) (length l.rects) && leb n (length l.marks) && leb n (length l.coverages)
+
 abbrev pub has_room : Given → Lent → Bool
-has_room g l =
-    let n = count g.glyphs in
-    leb (4 * n) (length l.rects) && leb n (length l.marks) && leb n (length l.coverages)
+has_room g l = room_for (count g.glyphs) l
 
 -- The questions about what is given, in document 01's order: 1, 2, 3 (ink), 5, 6, 7 to 11, 13.
 abbrev pub given_questions : Given → List Question

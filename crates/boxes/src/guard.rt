@@ -1,18 +1,20 @@
 // The questions that `boxes` asks.
-ghost use Rattle.std.specs.Prelude.{◌≡◌, ◌&&◌, ◌*◌, ◌<◌, ◌^◌, leb};
+ghost use Rattle.std.specs.Prelude.{◌≡◌, ◌*◌, ◌<◌, ◌^◌};
 ghost use Rattle.questions.specs.Questions.{first_missed};
 ghost use Rattle.questions.specs.Missed.{number_in};
-ghost use Rattle.boxes.specs.Call.{questions};
+ghost use Rattle.box_lists.specs.Steps.{lists_of};
+ghost use Rattle.boxes.specs.Call.{room_for, questions};
 
+use box_lists::lent::Lists;
 use params::settings::RulingsParams;
 use questions::{Missed, ask};
 
-// Question 14. The lists are given by their lengths.
-fn room_fits(n: usize, rects: usize, marks: usize, coverages: usize) -> bool
+// Question 14: is there room for n boxes?
+fn room_fits(n: usize, lists: &Lists) -> bool
     requires { 4 * n < 2 ^ 64 }
-    ensures { result ≡ leb (4 * n) rects && leb n marks && leb n coverages }
+    ensures { result ≡ room_for n (lists_of lists.now) }
 {
-    (4 * n <= rects) & (n <= marks) & (n <= coverages)
+    (4 * n <= lists.rects.len()) & (n <= lists.marks.len()) & (n <= lists.coverages.len())
 }
 
 pub fn missed(
@@ -23,9 +25,7 @@ pub fn missed(
     ink: &[u8],
     glyphs: &[u32],
     p: RulingsParams,
-    rects: &[u32],
-    marks: &[u32],
-    coverages: &[f64],
+    lists: &Lists,
 ) -> Result<(), Missed>
     ensures { number_in result ≡ first_missed (questions (record {
       w = w;
@@ -36,7 +36,7 @@ pub fn missed(
       ink = ink.now;
       glyphs = glyphs.now;
     })
-        (record { rects = rects.now; marks = marks.now; coverages = coverages.now })) }
+        (lists_of lists.now)) }
 {
     ask(layout::sides::levelled_sides_fit(w, h), Missed::Sides)?;
     params::scan::missed_by_scan(dpi, xheight)?;
@@ -44,9 +44,5 @@ pub fn missed(
     ask(rects::count_fits(glyphs, 16384), Missed::Counts)?;
     ask(rects::all_inside(glyphs, w, h), Missed::Rectangles)?;
     params::validate::missed_by_settings(p)?;
-    let n = glyphs.len() / 4;
-    ask(
-        room_fits(n, rects.len(), marks.len(), coverages.len()),
-        Missed::Room,
-    )
+    ask(room_fits(glyphs.len() / 4, lists), Missed::Room)
 }

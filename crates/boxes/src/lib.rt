@@ -5,6 +5,7 @@ ghost use Rattle.boxes.specs.Call.{Boxes};
 
 mod guard;
 
+use box_lists::lent::Lists;
 use ink::Mask;
 use params::settings::RulingsParams;
 
@@ -41,9 +42,12 @@ pub fn boxes(
         (record { rects = rects.old; marks = marks.old; coverages = coverages.old })
         (record { rects = rects.new; marks = marks.new; coverages = coverages.new }) result }
 {
-    if let Err(missed) = guard::missed(
-        w, h, dpi, xheight, ink, glyphs, p, rects, marks, coverages,
-    ) {
+    let mut lists = Lists {
+        rects,
+        marks,
+        coverages,
+    };
+    if let Err(missed) = guard::missed(w, h, dpi, xheight, ink, glyphs, p, &lists) {
         return Answer {
             number: missed.number(),
             count: 0,
@@ -51,6 +55,6 @@ pub fn boxes(
     }
     let l = glyph_tests::limits::limits_of(dpi, xheight, p);
     let mask = Mask { bytes: ink, w };
-    let count = box_lists::find(&mask, glyphs, l, rects, marks, coverages);
+    let count = box_lists::find(&mask, glyphs, l, &mut lists);
     Answer { number: 0, count }
 }

@@ -7,9 +7,10 @@ use native.Mathlib.Nat.{add-mul, mul_comm, add-zero, add-suc, add_assoc, min_com
 use mathlib.Core.Logic.{inl, inr}
 use native.Mathlib.Numerals.{add-one}
 use native.Mathlib.Omega.{arith}
-use lib.ListN.{length, get_or, length-map}
+use lib.ListN.{length, get_or, take, length-map}
+use Rattle.std.proofs.lemmas.List.{ext_get_or, get_or-take, length-take}
 use Rattle.lists.specs.Lists.{below}
-use Rattle.lists.proofs.Keep.{values_more, length_values, map_map, map_same, map_append, below_in}
+use Rattle.lists.proofs.Keep.{values_more, length_values, get_d_values, map_map, map_append}
 use Rattle.math.specs.Sum.{total}
 use Rattle.math.proofs.Sums.{EachLe, total_le}
 use Rattle.rects.specs.declared.Rect.{Rect}
@@ -53,25 +54,32 @@ sum_more raster start i columns w =
 -- ---- by columns
 
 -- one more row
-pub darkened_more : (raster : List ℕ) (start n k w : ℕ) (least least' : List ℕ) → Darkened raster start n k w least → ((i : ℕ) → i < n → get_or least' i 0 ≡ min (get_or least i 0) (get_or raster (start + k * w + i) 0)) → Darkened raster start n (k + 1) w least'
+pub darkened_more : (raster : List ℕ) (start n k w : ℕ) (least least' : List ℕ) → Darkened raster start n k w least
+    → ((i : ℕ) → i < n → get_or least' i 0 ≡ min (get_or least i 0) (get_or (line raster (start + k * w) n 1) i 0)) → Darkened raster start n (k + 1) w least'
 darkened_more raster start n k w least least' d h i l =
-    h i l ∙ ap₂ (λ (a j : ℕ). min a (get_or raster j 0)) (d i l) (place (k * w))
+    h i l ∙ ap₂ (λ (a b : ℕ). min a b) (d i l) (get_d_values (λ j. get_or raster (start + k * w + j * 1) 0) n i 0 l ∙ ap (λ (j : ℕ). get_or raster j 0) (place (k * w)))
     ∙ sym (ap darkest_of (values_more (λ k. get_or raster (start + i + k * w) 0) k) ∙ darkest_more (line raster (start + i) k w) (get_or raster (start + i + k * w) 0))
   where
-    place : (r : ℕ) → start + r + i ≡ start + i + r
+    place : (r : ℕ) → start + r + i * 1 ≡ start + i + r
     place r = omega arith
 
 -- the first i entries of a row are done, and the rest are as they were
-pub record DarkenedTo (raster : List ℕ) (start i : ℕ) (least least' : List ℕ) : Type 0 where
-  pub done : (j : ℕ) → j < i → get_or least' j 0 ≡ min (get_or least j 0) (get_or raster (start + j) 0)
+pub record DarkenedTo (row : List ℕ) (i : ℕ) (least least' : List ℕ) : Type 0 where
+  pub done : (j : ℕ) → j < i → get_or least' j 0 ≡ min (get_or least j 0) (get_or row j 0)
   pub left : (j : ℕ) → i ≤ j → get_or least' j 0 ≡ get_or least j 0
 
 earlier : (j i : ℕ) → j < i + 1 → (j ≡ i → ⊥) → j < i
 earlier j i l q = elim (eq-or-lt_of_le (le_of_suc-le-suc (rw add-one at l))) [ inl e ↦ absurd (q e) | inr h ↦ h ]
 
--- the sum of the entries is that of the columns
-pub columns_sum : (raster : List ℕ) (start n rows w : ℕ) (least : List ℕ) → Darkened raster start n rows w least → total (map (λ i. get_or least i 0) (below n)) ≡ total (columns_darkest raster start n rows w)
-columns_sum raster start n rows w least d = ap total (map_same (λ i. get_or least i 0) (λ i. darkest_of (line raster (start + i) rows w)) (below n) (λ i m. d i (below_in n i m)))
+-- the sum of the first n entries is that of the columns
+pub columns_sum : (raster : List ℕ) (start n rows w : ℕ) (least : List ℕ) → n ≤ length least → Darkened raster start n rows w least → total (take n least) ≡ total (columns_darkest raster start n rows w)
+columns_sum raster start n rows w least room d =
+    let f : ℕ → ℕ = λ i. darkest_of (line raster (start + i) rows w) in
+    ap total
+    (ext_get_or 0 (take n least) (map f (below n)) (omega (arith, length-take n least, length_values f n))
+    (λ i l.
+    let h : i < n = omega (arith, length-take n least) in
+    get_or-take n least i 0 h ∙ d i h ∙ sym (get_d_values f n i 0 h)))
 
 -- columns split
 values_split : (f : ℕ → ℕ) (i k : ℕ) → map f (below (i + k)) ≡ map f (below i) ++ map (λ j. f (i + j)) (below k)

@@ -1,27 +1,26 @@
 // The darkest pixel across a ruling, for each place along it.
-ghost use Rattle.std.specs.Prelude.{◌≡◌, ◌+◌, ◌≤◌, length};
+ghost use Rattle.std.specs.Prelude.{◌≡◌, ◌≤◌};
 ghost use Rattle.math.specs.Sum.{total};
 ghost use Rattle.rects.specs.Steps.{Inside};
-ghost use Rattle.paper.specs.Steps.{OnPicture, line};
+ghost use Rattle.paper.specs.Steps.{OnPicture};
 ghost use Rattle.contrast.specs.Steps.{rows_darkest, RowsInside, places_along};
 ghost use Rattle.paper.specs.Pixels.{darkest, darkest_of};
 
 use paper::Raster;
 use rects::Rect;
 
-// The darkest of n pixels from start on.
-fn darkest_of(pixels: &[u8], start: usize, n: usize) -> u8
-    requires { start + n ≤ length pixels.now }
-    ensures { result ≡ darkest_of (line pixels.now start n 1) }
+// The darkest of some pixels.
+fn darkest_of(row: &[u8]) -> u8
+    ensures { result ≡ darkest_of row.now }
 {
     let mut least = 255u8;
-    for p in &pixels[start..start + n] {
+    for p in row {
         least = least.min(*p);
     }
     least
 }
 
-// The sum over n rows, of the darkest of some columns.
+// The sum over n rows, of the darkest of some columns. They are given by numbers, as in `columns`.
 fn sum_of_rows(raster: &Raster, start: usize, n: usize, columns: usize) -> u32
     requires { (n ≤ 8192) × RowsInside raster.now.pixels start columns n raster.now.w }
     ensures { result ≡ total (rows_darkest raster.now.pixels start n columns raster.now.w) }
@@ -30,12 +29,13 @@ fn sum_of_rows(raster: &Raster, start: usize, n: usize, columns: usize) -> u32
     let w = raster.w;
     let mut sum = 0;
     for i in 0..n {
-        sum += u32::from(darkest_of(pixels, start + i * w, columns));
+        let at = start + i * w;
+        sum += u32::from(darkest_of(&pixels[at..at + columns]));
     }
     sum
 }
 
-// The sum of the darkest pixels.
+// The sum of the darkest pixels. `horizontal` is a bool as in `contrast`, here and in `along`.
 pub fn darkest_sum(raster: &Raster, r: Rect, horizontal: bool) -> u32
     requires { OnPicture raster.now r }
     ensures { result ≡ total (darkest raster.now.pixels raster.now.w r horizontal) }

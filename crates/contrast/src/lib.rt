@@ -10,7 +10,7 @@ mod darkest;
 use paper::Raster;
 use rects::Rect;
 
-// `horizontal` is what the ruling is, as `ruling_lists` has it.
+// `horizontal` says whether the ruling is. A bool, as the Rust has it: a test finds it (`pieces`).
 pub fn contrast(raster: &Raster, r: Rect, horizontal: bool) -> f64
     requires { OnPicture raster.now r }
     ensures { Contrasted raster.now r horizontal result }

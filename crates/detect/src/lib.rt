@@ -24,7 +24,7 @@ pub fn detect(
     ensures same { SameRules rules.old rules.new × SameMarks marks.old marks.new × SameFindings found.old found.new }
 {
     if let Err(question) = page::guard::missed(page, rules, marks, found) {
-        return page::answer::refused(question);
+        return page::answer::refused(question.number());
     }
     let ruled = read_page::rules::read(page, rules);
     let marked = read_page::marks::read(page, marks);

@@ -1,10 +1,13 @@
 -- Document 01's findings: four kinds, each with its own facts. For each kind its number in document 01 and its values.
-use Rattle.std.specs.Prelude.{ℕ, Bool, true, cond, ◌&&◌, List, [], ◌∷◌, Float}
+use Rattle.std.specs.Prelude.{ℕ, Bool, true, cond, eqb, ◌&&◌, List, [], ◌∷◌, Result, Ok, Err, Float}
 use Rattle.std.specs.Float.Ieee.Scale.{finite}
 use Rattle.math.specs.Constants.{zero}
 use Rattle.evidence.specs.declared.finding.Evidence.{Evidence}
 use Rattle.evidence.specs.declared.finding.Kind.{Kind}
 use Rattle.evidence.specs.declared.finding.Kind.TheVariants.{Table, FreeRules, Grid, Fold}
+use Rattle.evidence.specs.declared.finding.KindName.{KindName}
+use Rattle.evidence.specs.declared.finding.KindName.TheVariants as Name
+use Rattle.evidence.specs.declared.finding.NoKind.{NoKind}
 use Rattle.evidence.specs.declared.finding.Finding.{Finding}
 use Rattle.evidence.specs.declared.finding.Row.{Row}
 
@@ -14,6 +17,21 @@ kind_number (Table rows columns rulings second) = 16
 kind_number (FreeRules horizontal vertical longest second) = 17
 kind_number (Grid boxes ticked second) = 18
 kind_number (Fold vertical length) = 19
+
+-- The same numbers, of the kinds without their facts.
+abbrev pub number_of : KindName → ℕ
+number_of Name.Table = 16
+number_of Name.FreeRules = 17
+number_of Name.Grid = 18
+number_of Name.Fold = 19
+
+-- The kind that has a number, and an error where none has it.
+abbrev pub named : ℕ → Result KindName NoKind
+named number =
+    cond (eqb number 16) (Ok Name.Table)
+    (cond (eqb number 17) (Ok Name.FreeRules)
+    (cond (eqb number 18) (Ok Name.Grid)
+    (cond (eqb number 19) (Ok Name.Fold) (Err (record {})))))
 
 -- A fold's direction: 0 for horizontal and 1 for vertical.
 abbrev pub fold_number : Bool → ℕ

@@ -1,6 +1,6 @@
 // A finding is one of four kinds, each with its own facts.
 ghost use Rattle.std.specs.Prelude.{◌≡◌};
-ghost use Rattle.evidence.specs.Finding.{row_of, finite_evidence, finite_finding};
+ghost use Rattle.evidence.specs.Finding.{number_of, named, row_of, finite_evidence, finite_finding};
 
 use layout::rect::PageRect;
 
@@ -33,10 +33,49 @@ pub enum Kind {
         ticked: u32,
         second: Evidence,
     },
+    // A `bool`, as in the Rust: it is what a test finds of the list of directions, and a row holds it as a number.
     Fold {
         vertical: bool,
         length: f64,
     },
+}
+
+// A kind without its facts, by its number in document 01.
+#[derive(Clone, Copy)]
+pub enum KindName {
+    Table = 16,
+    FreeRules = 17,
+    Grid = 18,
+    Fold = 19,
+}
+
+impl KindName {
+    // A method and no `From`: the name says which number it is.
+    pub fn number(self) -> u32
+        ensures { result ≡ number_of self }
+    {
+        self as u32
+    }
+}
+
+// A number that no kind has.
+#[derive(Clone, Copy)]
+pub struct NoKind;
+
+impl TryFrom<u32> for KindName {
+    type Error = NoKind;
+
+    ghost try_from_gives = { λ number kind. kind ≡ named number };
+
+    fn try_from(number: u32) -> Result<Self, NoKind> {
+        match number {
+            16 => Ok(KindName::Table),
+            17 => Ok(KindName::FreeRules),
+            18 => Ok(KindName::Grid),
+            19 => Ok(KindName::Fold),
+            _ => Err(NoKind),
+        }
+    }
 }
 
 // Log odds, rectangle on the page, first evidence, and what its kind has.
@@ -52,6 +91,7 @@ pub struct Finding {
 #[derive(Clone, Copy)]
 pub struct Row {
     pub bbox: PageRect,
+    // Its number, as C's list of kinds holds it.
     pub kind: u32,
     pub a: u32,
     pub b: u32,
@@ -62,76 +102,78 @@ pub struct Row {
     pub length: f64,
 }
 
-pub fn row_of(f: Finding) -> Row
-    ensures { result ≡ row_of f }
-{
-    let kind = f.kind;
-    let bbox = f.bbox;
-    let first = f.first;
-    let none = Evidence {
-        value: 0.0,
-        threshold: 0.0,
-        llr: 0.0,
-    };
-    match kind {
-        Kind::Table {
-            rows,
-            columns,
-            rulings,
-            second,
-        } => Row {
-            bbox,
-            kind: 16,
-            a: rows,
-            b: columns,
-            c: rulings,
-            log_odds: f.log_odds,
-            first,
-            second,
-            length: 0.0,
-        },
-        Kind::FreeRules {
-            horizontal,
-            vertical,
-            longest,
-            second,
-        } => Row {
-            bbox,
-            kind: 17,
-            a: horizontal,
-            b: vertical,
-            c: longest,
-            log_odds: f.log_odds,
-            first,
-            second,
-            length: 0.0,
-        },
-        Kind::Grid {
-            boxes,
-            ticked,
-            second,
-        } => Row {
-            bbox,
-            kind: 18,
-            a: boxes,
-            b: ticked,
-            c: 0,
-            log_odds: f.log_odds,
-            first,
-            second,
-            length: 0.0,
-        },
-        Kind::Fold { vertical, length } => Row {
-            bbox,
-            kind: 19,
-            a: u32::from(vertical),
-            b: 0,
-            c: 0,
-            log_odds: f.log_odds,
-            first,
-            second: none,
-            length,
-        },
+impl From<Finding> for Row {
+    ghost from_gives = { λ f row. row ≡ row_of f };
+
+    fn from(f: Finding) -> Row {
+        let kind = f.kind;
+        let bbox = f.bbox;
+        let first = f.first;
+        let none = Evidence {
+            value: 0.0,
+            threshold: 0.0,
+            llr: 0.0,
+        };
+        match kind {
+            Kind::Table {
+                rows,
+                columns,
+                rulings,
+                second,
+            } => Row {
+                bbox,
+                kind: KindName::Table.number(),
+                a: rows,
+                b: columns,
+                c: rulings,
+                log_odds: f.log_odds,
+                first,
+                second,
+                length: 0.0,
+            },
+            Kind::FreeRules {
+                horizontal,
+                vertical,
+                longest,
+                second,
+            } => Row {
+                bbox,
+                kind: KindName::FreeRules.number(),
+                a: horizontal,
+                b: vertical,
+                c: longest,
+                log_odds: f.log_odds,
+                first,
+                second,
+                length: 0.0,
+            },
+            Kind::Grid {
+                boxes,
+                ticked,
+                second,
+            } => Row {
+                bbox,
+                kind: KindName::Grid.number(),
+                a: boxes,
+                b: ticked,
+                c: 0,
+                log_odds: f.log_odds,
+                first,
+                second,
+                length: 0.0,
+            },
+            Kind::Fold { vertical, length } => Row {
+                bbox,
+                kind: KindName::Fold.number(),
+                a: u32::from(vertical),
+                b: 0,
+                c: 0,
+                log_odds: f.log_odds,
+                first,
+                second: none,
+                length,
+            },
+        }
     }
 }
 
@@ -145,7 +187,7 @@ fn finite_evidence(e: Evidence) -> bool
 pub fn is_finite(f: Finding) -> bool
     ensures { result ≡ finite_finding f }
 {
-    let row = row_of(f);
+    let row = Row::from(f);
     let first = row.first;
     let second = row.second;
     finite_evidence(first) & finite_evidence(second)

@@ -34,6 +34,8 @@ fn with_two(
     }
 }
 
+// Settings, caps and rectangle stand first in each of the four functions, as in the definitions: a struct of the three would be made for
+// one call.
 pub fn table_finding(
     p: RulingsParams,
     f: FusionParams,
@@ -46,6 +48,7 @@ pub fn table_finding(
     requires { rows * columns ≤ 2 ^ 53 }
     ensures { result ≡ table_finding p f bbox rows columns rulings share }
 {
+    // `as`, since no `From` makes a float of a u64.
     let cells = (u64::from(rows) * u64::from(columns)) as f64;
     let clip = f.llr_clip;
     let first = count_evidence(cells, 0.0, p.table_cells_coef, p.table_cells_cap, clip);
@@ -135,7 +138,7 @@ pub fn is_fold(p: RulingsParams, inches: f64) -> bool
     !(inches < p.fold_min_length_in)
 }
 
-// A fold: its direction, its length in inches, and its contrast.
+// A fold: its direction, its length in inches, and its contrast. The direction is a `bool`, as in the Rust: it is what a test finds.
 pub fn fold_finding(
     p: RulingsParams,
     f: FusionParams,

@@ -2,16 +2,15 @@
 -- order from its front: each place holds what was stored there last, and no two blocks have one place.
 use mathlib.Core.Path.{◌≡◌, refl, sym, ap, subst, ◌∙◌}
 use mathlib.Core.Logic.{◌⊎◌, inl, inr}
-use mathlib.Core.Bool.{Bool, true, false}
 use mathlib.Core.List.{List, [], ◌∷◌, ◌++◌, map}
 use Prim.Native.Nat.{ℕ, zero, suc, ◌+◌, ◌-◌, ◌*◌, ◌≤◌, ◌<◌}
 use native.Mathlib.Nat.{not-suc-le-zero, mul-le-mul_left, mul-suc}
 use native.Mathlib.Omega.{arith}
-use lib.Dec.{ltb}
-use borrow.Author.Tests.{ltb-true, ltb-false}
 use lib.ListN.{length, get_or, set, length-set, length-map, length-append, get_or-append}
 use lib.Seq.{sets, length-sets, get_or-set_same, get_or-set_other, get_or-append-add, ext_get_or}
+use Rattle.std.proofs.lemmas.Bool.{cases_lt}
 use Rattle.lists.specs.Lists.{concat, written}
+use Rattle.lists.proofs.Stores.{sets_at, sets_other}
 use Rattle.lists.proofs.Written.{written_length, written_at, written_past}
 use Rattle.lists.proofs.Keep.{get_d_of}
 use Rattle.finding_lists.specs.Steps.{placed}
@@ -37,19 +36,12 @@ placed_long w [] ps l = refl
 placed_long w (b ∷ bs) [] l = refl
 placed_long w (b ∷ bs) (p ∷ ps) l = placed_long w bs ps (sets l (w * p) b) ∙ length-sets l (w * p) b
 
-lt_or_ge : (a b : ℕ) → (a < b) ⊎ (b ≤ a)
-lt_or_ge a b = go (ltb a b) refl
-  where
-    go : (t : Bool) → ltb a b ≡ t → (a < b) ⊎ (b ≤ a)
-    go true e = inl (ltb-true a b e)
-    go false e = inr (ltb-false a b e)
-
 -- a block behind another ends past it
 block_past : (w p q : ℕ) → p < q → w * p + w ≤ w * q
 block_past w p q h = let m : w * suc p ≤ w * q = mul-le-mul_left w h in let e = mul-suc w p in omega arith
 
 blocks_apart : (w p q r : ℕ) → r < w → (p ≡ q → ⊥) → (w * p + r < w * q) ⊎ (w * q + w ≤ w * p + r)
-blocks_apart w p q r h n = go (lt_or_ge p q)
+blocks_apart w p q r h n = go (cases_lt p q)
   where
     below : q ≤ p → q < p
     below l = omega (arith, n)
@@ -64,34 +56,13 @@ place_in w zero i h = absurd (not-suc-le-zero (none h))
   where
     none : i < w * 0 → i < 0
     none l = omega arith
-place_in w (suc n) i h = go (λ l. place_in w n i l) (lt_or_ge i (w * n))
+place_in w (suc n) i h = go (λ l. place_in w n i l) (cases_lt i (w * n))
   where
     go : (i < w * n → (j r : ℕ) × (i ≡ w * j + r) × (r < w) × (j < n)) → (i < w * n) ⊎ (w * n ≤ i) → (j r : ℕ) × (i ≡ w * j + r) × (r < w) × (j < suc n)
     go before (inl l) = let s = before l in (s.0, s.1, s.2, s.3, omega (arith, s.4))
     go before (inr l) = let e = mul-suc w n in (n, i - w * n, omega arith, omega arith, omega arith)
 
 module _ {A : Type 0} (d : A) where
-  sets_other : (vs l : List A) (at i : ℕ) → (i < at) ⊎ (at + length vs ≤ i) → get_or (sets l at vs) i d ≡ get_or l i d
-  sets_other [] l at i o = refl
-  sets_other (v ∷ vs) l at i o = sets_other vs (set l at v) (suc at) i (further o) ∙ get_or-set_other l at i v d (apart o)
-    where
-      further : (i < at) ⊎ (at + suc (length vs) ≤ i) → (i < suc at) ⊎ (suc at + length vs ≤ i)
-      further (inl h) = inl (omega arith)
-      further (inr h) = inr (omega arith)
-
-      apart : (i < at) ⊎ (at + suc (length vs) ≤ i) → i ≡ at → ⊥
-      apart (inl h) e = omega arith
-      apart (inr h) e = omega arith
-
-  sets_at : (vs l : List A) (at r : ℕ) → r < length vs → at + length vs ≤ length l → get_or (sets l at vs) (at + r) d ≡ get_or vs r d
-  sets_at [] l at r h f = absurd (not-suc-le-zero h)
-  sets_at (v ∷ vs) l at zero h f =
-      let e : at + 0 ≡ at = omega arith in
-      rw e (sets_other vs (set l at v) (suc at) at (inl (omega arith)) ∙ get_or-set_same l at v d (omega arith))
-  sets_at (v ∷ vs) l at (suc r) h f =
-      let e : at + suc r ≡ suc at + r = omega arith in
-      rw e (sets_at vs (set l at v) (suc at) r (omega arith) (let s = length-set l at v in omega arith))
-
   -- every block has w entries
   abbrev pub Wide : ℕ → List (List A) → Type 0
   Wide w bs = (k : ℕ) → k < length bs → length (get_or bs k []) ≡ w
@@ -102,7 +73,7 @@ module _ {A : Type 0} (d : A) where
   placed_other w (b ∷ bs) [] l i W o = refl
   placed_other w (b ∷ bs) (p ∷ ps) l i W o =
       placed_other w bs ps (sets l (w * p) b) i (λ k h. W (suc k) (omega arith)) (λ k h. o (suc k) (omega arith))
-      ∙ sets_other b l (w * p) i (subst (λ (n : ℕ). (i < w * p) ⊎ (w * p + n ≤ i)) (sym (W 0 (omega arith))) (o 0 (omega arith)))
+      ∙ sets_other d b l (w * p) i (subst (λ (n : ℕ). (i < w * p) ⊎ (w * p + n ≤ i)) (sym (W 0 (omega arith))) (o 0 (omega arith)))
 
   placed_at : (w : ℕ) (bs : List (List A)) (ps : List ℕ) (l : List A) (k r : ℕ) → Wide w bs → length bs ≡ length ps
       → ((i j : ℕ) → i < length ps → j < length ps → get_or ps i 0 ≡ get_or ps j 0 → i ≡ j) → ((j : ℕ) → j < length ps → w * get_or ps j 0 + w ≤ length l)
@@ -116,7 +87,7 @@ module _ {A : Type 0} (d : A) where
   placed_at w (b ∷ bs) (p ∷ ps) l zero r W e D L h q =
       placed_other w bs ps (sets l (w * p) b) (w * p + r) (λ k h. W (suc k) (omega arith))
       (λ k h. blocks_apart w p (get_or ps k 0) r q (λ s. never (D 0 (suc k) (omega arith) (omega arith) s)))
-      ∙ sets_at b l (w * p) r (let s : length b ≡ w = W 0 (omega arith) in omega arith) (let s : length b ≡ w = W 0 (omega arith) in let t : w * p + w ≤ length l = L 0 (omega arith) in omega arith)
+      ∙ sets_at d b l (w * p) r (let s : length b ≡ w = W 0 (omega arith) in omega arith) (let s : length b ≡ w = W 0 (omega arith) in let t : w * p + w ≤ length l = L 0 (omega arith) in omega arith)
     where
       never : {n : ℕ} → 0 ≡ suc n → ⊥
       never e = omega arith
@@ -156,7 +127,7 @@ pub record Inverse (ps order : List ℕ) : Type 0 where
 pub placed_in_order : {A : Type 0} (d : A) (w : ℕ) (bs : List (List A)) (ps order : List ℕ) (l : List A) → Wide d w bs → length bs ≡ length ps → Inverse ps order
     → w * length ps ≤ length l → placed w bs ps l ≡ written (concat (map (λ k. get_or bs k []) order)) l
 placed_in_order {A} d w bs ps order l W e I room =
-    ext_get_or d (placed w bs ps l) (written blocks l) (placed_long w bs ps l ∙ sym (written_length blocks l (omega (arith, long)))) (λ i h. at i (lt_or_ge i (w * length ps)))
+    ext_get_or d (placed w bs ps l) (written blocks l) (placed_long w bs ps l ∙ sym (written_length blocks l (omega (arith, long)))) (λ i h. at i (cases_lt i (w * length ps)))
   where
     cs : List (List A)
     cs = map (λ k. get_or bs k []) order

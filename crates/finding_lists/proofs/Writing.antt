@@ -21,9 +21,8 @@ use Rattle.evidence.specs.declared.finding.Kind.TheVariants.{Fold}
 use Rattle.evidence.specs.declared.finding.Row.{Row}
 use Rattle.evidence.specs.declared.finding.Finding.{Finding}
 use Rattle.evidence.specs.Finding.{row_of, finite_finding}
-use Rattle.finding_lists.specs.Columns.{Columns, rect_of}
+use Rattle.finding_lists.specs.Columns.{Columns}
 use Rattle.finding_lists.specs.Steps.{Stored, Roomy, WroteOne, Wrote, RanksGiven}
-use Rattle.finding_lists.proofs.Placed.{placed_long}
 use Rattle.finding_lists.proofs.Storing.{stored_none, stored_then, still_roomy}
 
 -- The first k of n findings are stored.

@@ -5,7 +5,7 @@ ghost use Rattle.finding_lists.specs.Columns.{columns_of};
 ghost use Rattle.finding_lists.specs.Steps.{Roomy, Stored, WroteOne, Wrote, RanksGiven, SameFindings};
 
 use crate::lent::LentFindings;
-use evidence::finding::Finding;
+use evidence::finding::{Finding, Row};
 use layout::rect::PageRect;
 use rects::Rect;
 
@@ -30,7 +30,7 @@ pub fn put(f: Finding, i: usize, lists: &mut LentFindings)
         (columns_of lists.new) }
     ensures same { SameFindings lists.old lists.new }
 {
-    let row = evidence::finding::row_of(f);
+    let row = Row::from(f);
     rects::put_rect(lists.rects, i, numbers(row.bbox));
     lists.kinds[i] = row.kind;
     lists.a[i] = row.a;
@@ -60,7 +60,7 @@ pub fn put_ranked(f: Finding, ranks: &[u32], k: usize, lists: &mut LentFindings)
 }
 
 // Stores n findings, each as `finding` gives it, at their ranks, which stand from place `at` on, and tells whether every evidence number
-// is finite.
+// is finite. The number stands beside the lists, since these are lent and may be longer.
 pub fn put_all<F: Fn(usize) -> Finding>(
     finding: F,
     n: usize,

@@ -19,7 +19,7 @@ use Rattle.findings.specs.Pairing.{FindingsPaired}
 use Rattle.findings.proofs.OnPage.{corner_small}
 use Rattle.findings.proofs.Ordered.{origin, ordered}
 use Rattle.findings.proofs.Pairs.{Without, without_both, without_none, items_without, stands_item, stands_either, stretch}
-use Rattle.findings.proofs.Writes.{at_entries}
+use Rattle.lists.proofs.Keep.{at_entries}
 
 -- every page rectangle of a list begins below column 8,192
 abbrev Small : List Finding → Type 0

@@ -2,7 +2,6 @@
 use mathlib.Core.Path.{subst}
 use mathlib.Core.List.{List}
 use Prim.Native.Nat.{ℕ, ◌+◌, ◌*◌, ◌≤◌, ◌<◌}
-use native.Mathlib.Omega.{arith}
 use lib.Ieee.{Float}
 use lib.ListN.{length}
 use Rattle.lists.specs.Lists.{In}
@@ -11,7 +10,7 @@ use Rattle.rects.specs.Rects.{rect_at}
 use Rattle.rects.specs.Steps.{Inside, Places}
 use Rattle.rects.specs.Around.{around}
 use Rattle.rects.proofs.Around.{around_inside}
-use Rattle.findings.specs.Steps.{AllGiven, RectsGiven, SetGiven, GridRectsGiven, GridsGiven}
+use Rattle.findings.specs.Steps.{AllGiven, SetGiven}
 
 module _ {w h : ℕ} (rects places : List ℕ) (G : SetGiven w h rects places) where
   pub places_given : Places rects places

@@ -1,7 +1,6 @@
 -- Why the findings are right: laws that belong to no one function.
 pub mod Fronts
 pub mod OnPage
-pub mod KeyLoop
 pub mod All
 pub mod Ordered
 pub mod Pairs

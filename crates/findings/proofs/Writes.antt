@@ -7,7 +7,7 @@ use Prim.Native.Nat.{ℕ, zero, suc, ◌+◌, ◌≤◌}
 use native.Mathlib.Omega.{arith}
 use lib.ListN.{length, get_or, take, drop, length-append, length-map}
 use Rattle.lists.specs.Lists.{below, every_below}
-use Rattle.lists.proofs.Keep.{map_append, map_map, by_place, length_values}
+use Rattle.lists.proofs.Keep.{map_append, map_map, at_entries, length_values}
 use Rattle.rects.specs.Rects.{count}
 use Rattle.ranks.specs.Ranks.{Ranked}
 use Rattle.params.specs.declared.settings.RulingsParams.{RulingsParams}
@@ -45,10 +45,6 @@ module _ {p : RulingsParams} {folds numbers ka kb ra rb : List ℕ} {tables rule
           subst (λ (n : ℕ). RanksGiven rb 0 n l₃) W.second_long (second_ranks W.ranked (wrote_roomy h (wrote_roomy g (wrote_roomy f W.room A) B) D) W.grid_ranks_long)
 
 -- ---- the keys of the findings
-
--- what stands at each entry of a list
-pub at_entries : {A : Type 0} (f : ℕ → A) (xs : List ℕ) → map (λ k. f (get_or xs k 0)) (below (length xs)) ≡ map f xs
-at_entries f xs = sym (map_map f (λ k. get_or xs k 0) (below (length xs))) ∙ ap (map f) (by_place xs 0)
 
 module _ (s : Scan) (t : TableLists) (r : RulingLists) (b : BoxLists) (dpi : ℕ) where
   table_keys : map key_of (table_findings s t) ≡ map (table_key s.sides s.shear s.shear_x t.bounds) (below (count t.bounds))

@@ -1,7 +1,6 @@
 // The findings of a page, from what was found on it: the keys and the findings of each kind.
 #![tactic(auto)]
 
-pub mod keys;
 pub mod page;
 pub mod places;
 pub mod sources;

@@ -1,4 +1,5 @@
-// What the rulings or the boxes at some places have in common: how many have a number, and the longest ruling.
+// What the rulings or the boxes at some places have in common: how many have a number, and the longest ruling. Directions are 0 and 1, and
+// marks are numbers, as C's lists hold them.
 ghost use Rattle.std.specs.Prelude.{◌≡◌, map, ◌≤◌, eqb, length, get_or};
 ghost use Rattle.lists.specs.Lists.{keep};
 ghost use Rattle.rects.specs.Steps.{Inside};
@@ -16,16 +17,13 @@ pub fn count_equal(numbers: &[u32], places: &[u32], number: u32) -> usize
     requires { NumbersGiven numbers.now places.now }
     ensures { result ≡ length (keep (λ k. eqb (get_or numbers.now k 0) number) places.now) }
 {
-    let mut count = 0;
-    for place in places {
-        if numbers[*place as usize] == number {
-            count += 1;
-        }
-    }
-    count
+    places
+        .iter()
+        .filter(|place| numbers[**place as usize] == number)
+        .count()
 }
 
-// A ruling's length runs along it.
+// A ruling's length runs along it. The direction is a `bool`, as in the Rust: it is what a test of a number in the list finds.
 pub fn length_of(r: Rect, horizontal: bool) -> u32
     requires { Inside 8192 8192 r }
     ensures { result ≡ length_of r horizontal }
@@ -51,6 +49,7 @@ fn over(sum: f64, n: usize) -> f64
     requires { n ≤ 16384 }
     ensures { result ≡ div binary64 sum (whole n) }
 {
+    // `as`, since no `From` makes a float of a usize.
     sum / (n as f64)
 }
 

@@ -1,4 +1,4 @@
-// The findings of the folds: which faint rulings are folds, their keys, and their findings.
+// The findings of the folds: which faint rulings are folds, their keys, and their findings. A direction is 0 or 1, as C's lists hold it.
 #![tactic(auto)]
 
 ghost use Rattle.std.specs.Prelude.{◌≡◌, map, ◌+◌, ◌*◌, ◌<◌, ◌≤◌, length, get_or};
@@ -10,7 +10,7 @@ ghost use Rattle.finding_lists.specs.Steps.{Wrote, RanksGiven, SameFindings};
 ghost use Rattle.findings.specs.Steps.{fold_key, PlacesGiven, AllGiven, RectsGiven, Front};
 ghost use Rattle.findings.specs.Made.{fold_inches, folds, fold_at};
 
-use evidence::finding::Finding;
+use evidence::finding::{Finding, KindName};
 use finding_lists::lent::LentFindings;
 use finding_lists::put;
 use findings::places;
@@ -26,7 +26,7 @@ fn inches(dpi: u16, rects: &[u32], directions: &[u32], place: usize) -> f64
     evidence::kinds::inches(length, dpi)
 }
 
-// Lists the places of the folds: the faint rulings that are long enough.
+// Lists the places of the folds: the faint rulings that are long enough. The number steps by hand, since only those that are listed count.
 pub fn choose(
     p: RulingsParams,
     dpi: u16,
@@ -54,8 +54,8 @@ pub fn keys(scan: &Scan, rects: &[u32], folds: &[u32], at: usize, keys: &mut [u6
     ensures { keys.new ≡ sets keys.old at
         (map (fold_key scan.now.sides scan.now.shear scan.now.shear_x rects.now) folds.now) }
 {
-    findings::keys::put_all(
-        |k| scan.key(rects::rect_at(rects, folds[k] as usize), 19),
+    lists::put_all(
+        |k| scan.key(rects::rect_at(rects, folds[k] as usize), KindName::Fold),
         folds.len(),
         at,
         keys,
@@ -69,6 +69,7 @@ pub fn finding(scan: &Scan, dpi: u16, rulings: &RulingLists, place: usize) -> Fi
     ensures { result ≡ fold_at scan.now dpi rulings.now place }
 {
     let bbox = scan.on_page(rects::rect_at(rulings.rects, place));
+    // A fold's direction is a `bool`: it is what this test finds.
     evidence::kinds::fold_finding(
         scan.settings,
         scan.caps,

@@ -1,14 +1,14 @@
 // The finding of the free rules, one if at least min_free_rules are free.
 #![tactic(auto)]
 
-ghost use Rattle.std.specs.Prelude.{◌≡◌, map, ◌+◌, ◌≤◌, ◌<◌, leb, length};
+ghost use Rattle.std.specs.Prelude.{◌≡◌, ◌+◌, ◌≤◌, ◌<◌, leb, length};
 ghost use Rattle.lists.specs.Lists.{one, written};
 ghost use Rattle.finding_lists.specs.Columns.{columns_of};
 ghost use Rattle.finding_lists.specs.Steps.{Wrote, RanksGiven, SameFindings};
 ghost use Rattle.findings.specs.Steps.{free_keys, NumbersGiven, RectsGiven, AllGiven, KeysStored};
 ghost use Rattle.findings.specs.Made.{free_places, free_of, free_count_of};
 
-use evidence::finding::Finding;
+use evidence::finding::{Finding, KindName};
 use finding_lists::lent::LentFindings;
 use finding_lists::put;
 use findings::places;
@@ -40,7 +40,12 @@ pub fn keys(scan: &Scan, rects: &[u32], places: &[u32], at: usize, keys: &mut [u
         keys.old keys.new result }
 {
     let n = made(scan.settings, places.len());
-    findings::keys::put_all(|_| scan.key_around(rects, places, 17), n, at, keys);
+    lists::put_all(
+        |_| scan.key_around(rects, places, KindName::FreeRules),
+        n,
+        at,
+        keys,
+    );
     n
 }
 
@@ -53,6 +58,7 @@ pub fn finding(scan: &Scan, rulings: &RulingLists, places: &[u32]) -> Finding
     let settings = scan.settings;
     let bbox = scan.around(rulings.rects, places);
     let count = places.len();
+    // 0 for horizontal, as C's list of directions holds it.
     let horizontal = places::count_equal(rulings.directions, places, 0);
     let vertical = count - horizontal;
     let longest = places::longest(rulings.rects, rulings.directions, places);

@@ -24,8 +24,8 @@ fn join_row(values: &[u32], gap: u32, parents: &mut [u32], i: usize)
     let n = values.len();
     let value = values[i];
     for j in i + 1..n {
-        let touch = near(value, values[j], gap);
-        sets::join_if(parents, n, i, j, touch);
+        let other = values[j];
+        sets::join_if(parents, n, i, j, || near(value, other, gap));
     }
 }
 
@@ -41,7 +41,7 @@ fn join_all(values: &[u32], gap: u32, parents: &mut [u32])
     }
 }
 
-// Is there room for n entries in lists of these lengths?
+// Is there room for n entries in lists of these lengths? n stands beside them, since lent lists may be longer than what is in use.
 pub fn room(n: usize, a: usize, b: usize, c: usize, d: usize) -> bool
     ensures { result ≡ room_for n a b c d }
 {
@@ -57,7 +57,8 @@ pub struct Answer {
     pub count: usize,
 }
 
-// The closed sets of the places of numbers within a gap of each other. Lists too short are refused, and nothing is written.
+// The closed sets of the places of numbers within a gap of each other. Lists too short are refused, and nothing is written. `pairs` has the
+// same frame: a contract can't go over rules, which one function with a closure that joins would ask.
 pub fn gap_sets(
     values: &[u32],
     gap: u32,

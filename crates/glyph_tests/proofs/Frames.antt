@@ -6,10 +6,9 @@ use Rattle.math.specs.Sum.{whole}
 use Rattle.rects.specs.Rects.{width_of, height_of}
 use Rattle.rects.specs.Steps.{Inside}
 use Rattle.rects.specs.declared.Rect.{Rect}
-use Rattle.ink.specs.Ink.{Mask, Ink, row_ink, column_ink}
-use Rattle.ink.specs.Steps.{Readable}
+use Rattle.ink.specs.Ink.{Ink, row_ink, column_ink}
+use Rattle.ink.specs.Steps.{Within}
 use Rattle.ink.specs.Places.{over, first_place, last_end}
-use Rattle.ink.proofs.Counts.{readable_inside}
 use Rattle.ink.proofs.Places.{last_is, first_before_end}
 use Rattle.std.specs.Prelude.{Option, Some, None}
 use Rattle.glyph_tests.specs.Tests.{row_over, column_over, top_of, bottom_of, left_of, right_of, has_frame, frame_of}
@@ -89,9 +88,9 @@ module _ (ink : Ink) (fraction : Float) (r : Rect) where
       let u = columns_ordered (ltb-true _ _ (and_second s t h)) in
       (omega (arith, u), omega (arith, v), omega (arith, u), omega (arith, v))
 
-  -- it can be read where the glyph box can
-  pub frame_readable : (m : Mask) → Readable m r → has_frame ink fraction r ≡ true → Readable m (frame_of ink fraction r)
-  frame_readable m R h = let e = frame_ends R.wide R.high h in readable_inside m r (frame_of ink fraction r) R e.0 e.1 e.2 e.3
+  -- a part of the glyph box
+  pub frame_within : r.x0 ≤ r.x1 → r.y0 ≤ r.y1 → has_frame ink fraction r ≡ true → Within (frame_of ink fraction r) r
+  frame_within wide high h = let e = frame_ends wide high h in record { wide = e.0; high = e.1; right = e.2; bottom = e.3 }
 
   -- and lies in a picture that the glyph box lies in
   pub frame_inside : (w h : ℕ) → Inside w h r → has_frame ink fraction r ≡ true → Inside w h (frame_of ink fraction r)

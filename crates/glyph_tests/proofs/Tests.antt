@@ -1,5 +1,5 @@
 -- Each way out of the tests on one glyph box: the tests before it let the glyph box through, and its own did not.
-use Rattle.std.proofs.Common.{◌≡◌, ℕ, Bool, true, false, cond, sym, ap, ◌∙◌, ap₂}
+use Rattle.std.proofs.Common.{◌≡◌, ℕ, Bool, true, false, sym, ap, ◌∙◌, ap₂}
 use lib.Ieee.{Float, lt, le}
 use Rattle.rects.specs.Rects.{width_of, height_of}
 use Rattle.rects.specs.declared.Rect.{Rect}
@@ -7,7 +7,7 @@ use Rattle.ink.specs.Ink.{Ink}
 use Rattle.glyph_tests.specs.declared.limits.Limits.{Limits}
 use Rattle.glyph_tests.specs.declared.found.CheckBox.{CheckBox}
 use Rattle.std.specs.Prelude.{Option, Some, None}
-use Rattle.glyph_tests.specs.Tests.{size_missed, has_frame, aspect_missed, edge_coverage, inner_ink, mark_of}
+use Rattle.glyph_tests.specs.Tests.{size_missed, has_frame, aspect_missed, edge_coverage, inner_ink, is_ticked}
 use Rattle.glyph_tests.specs.Glyph.{frame_missed, box_in, passed_over, trimmed}
 use Rattle.glyph_tests.specs.Steps.{found_in, found_of}
 
@@ -50,14 +50,14 @@ module _ (ink : Ink) (l : Limits) (f : Rect) where
     unfolding found_in frame_missed
     by_ink u = let d = straight in let k = full u in simp (a, b, d, k)
 
-    pub is_box : lt l.box_max_inner_ink i ≡ false → {m : ℕ} → m ≡ cond (le l.box_checked_ink i) 1 0
-        → Some (record { bbox = f; mark = m; edge_coverage = c }) ≡ found_in ink l f
+    pub is_box : lt l.box_max_inner_ink i ≡ false → {q : Rect} → q ≡ f → {t : Bool} → t ≡ le l.box_checked_ink i
+        → Some (record { bbox = q; ticked = t; edge_coverage = c }) ≡ found_in ink l f
     unfolding found_in frame_missed box_in
-    is_box u {m} n =
+    is_box u r {t} n =
         let d = straight in
         let k = full u in
-        let n' : m ≡ mark_of ink l f = n ∙ ap (λ (i : Float). cond (le l.box_checked_ink i) 1 0) g in
-        ap {B = Option CheckBox} (λ (x : CheckBox). Some x) (λ j. record { bbox = f; mark = n' j; edge_coverage = e j }) ∙ simp (a, b, d, k)
+        let n' : t ≡ is_ticked ink l f = n ∙ ap (le l.box_checked_ink) g in
+        ap {B = Option CheckBox} (λ (x : CheckBox). Some x) (λ j. record { bbox = r j; ticked = n' j; edge_coverage = e j }) ∙ simp (a, b, d, k)
 
 module _ (ink : Ink) (l : Limits) (r : Rect) where
   abbrev loose : Bool

@@ -6,7 +6,7 @@ use Rattle.rects.specs.declared.Rect.{Rect}
 use Rattle.ink.specs.Ink.{Ink}
 use Rattle.glyph_tests.specs.declared.limits.Limits.{Limits}
 use Rattle.glyph_tests.specs.declared.found.CheckBox.{CheckBox}
-use Rattle.glyph_tests.specs.Tests.{size_missed, has_frame, frame_of, aspect_missed, edge_coverage, too_full, mark_of}
+use Rattle.glyph_tests.specs.Tests.{size_missed, has_frame, frame_of, aspect_missed, edge_coverage, too_full, is_ticked}
 
 -- The tests on the frame f: size, aspect, edges, inner ink.
 unfoldable pub frame_missed : Ink → Limits → Rect → Bool
@@ -18,7 +18,7 @@ frame_missed ink l f =
 
 -- The box with the frame f.
 unfoldable pub box_in : Ink → Limits → Rect → CheckBox
-box_in ink l f = record { bbox = f; mark = mark_of ink l f; edge_coverage = edge_coverage ink f l.box_tolerance_px }
+box_in ink l f = record { bbox = f; ticked = is_ticked ink l f; edge_coverage = edge_coverage ink f l.box_tolerance_px }
 
 -- The frame of a glyph box.
 abbrev pub trimmed : Ink → Limits → Rect → Rect

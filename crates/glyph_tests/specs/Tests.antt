@@ -1,5 +1,5 @@
 -- The steps of `boxes` for one glyph box, in the Rust's order. A test that ends in Missed passes the glyph box over where it holds, by IEEE comparison.
-use Rattle.std.specs.Prelude.{ℕ, ◌+◌, ◌-◌, ◌*◌, ◌/◌, min, max, Bool, cond, ◌&&◌, ◌||◌, nat_lt, Float}
+use Rattle.std.specs.Prelude.{ℕ, ◌+◌, ◌-◌, ◌*◌, ◌/◌, min, max, Bool, ◌&&◌, ◌||◌, nat_lt, Float}
 use Rattle.std.specs.Float.{binary64}
 use Rattle.std.specs.Float.Ieee.{lt, le, sub, mul, div}
 use Rattle.lists.specs.Lists.{below, any}
@@ -103,6 +103,6 @@ inner_ink ink f = div binary64 (whole (ink_in ink (inner_half f))) (whole (max (
 abbrev pub too_full : Ink → Limits → Rect → Bool
 too_full ink l f = lt l.box_max_inner_ink (inner_ink ink f)
 
--- The mark of a box: 1 ticked, 0 empty.
-abbrev pub mark_of : Ink → Limits → Rect → ℕ
-mark_of ink l f = cond (le l.box_checked_ink (inner_ink ink f)) 1 0
+-- The inner half is so full that the box is ticked; otherwise it is empty.
+abbrev pub is_ticked : Ink → Limits → Rect → Bool
+is_ticked ink l f = le l.box_checked_ink (inner_ink ink f)

@@ -2,13 +2,14 @@
 ghost use Rattle.std.specs.Prelude.{◌≡◌, ◌^◌, ◌<◌, ◌≤◌};
 ghost use Prim.Native.Nat.{◌+◌};
 ghost use Rattle.ink.specs.Ink.{inked};
-ghost use Rattle.ink.specs.Steps.{Readable};
 ghost use Rattle.glyph_tests.specs.Tests.{edge_coverage};
 ghost use Rattle.glyph_tests.specs.Steps.{top_band, bottom_band, left_band, right_band, line_share};
 
-use ink::{Lines, Mask};
+use ink::{Lines, Region};
 use rects::Rect;
 
+// Four bands, along a frame's four sides: x and y exchanged, or the other end kept. No constant and no type tells them apart, so one function
+// for all would be no plainer.
 fn top_band(f: Rect, tol: u32) -> Rect
     requires { f.y0 + tol < 2 ^ 32 }
     ensures { result ≡ top_band f tol }
@@ -58,21 +59,21 @@ fn right_band(f: Rect, tol: u32) -> Rect
 }
 
 // The longest unbroken run of lines of a band that have ink, as a share of them.
-fn share(mask: &Mask, band: Rect, lines: Lines) -> f64
-    requires { Readable mask.now band }
-    ensures { result ≡ line_share (inked mask.now) band lines }
+fn share(band: &Region, lines: Lines) -> f64
+    ensures { result ≡ line_share (inked band.now.mask) band.now.rect lines }
 {
-    let best = ink_lines::longest(mask, band, lines);
-    f64::from(best) / f64::from(ink_lines::lines_of(band, lines))
+    let best = ink_lines::longest(band, lines);
+    f64::from(best) / f64::from(ink_lines::lines_of(band.rect, lines))
 }
 
-pub fn edge_coverage(mask: &Mask, f: Rect, tol: u32) -> f64
-    requires { Readable mask.now f × (tol ≤ 3) }
-    ensures { result ≡ edge_coverage (inked mask.now) f tol }
+pub fn edge_coverage(frame: &Region, tol: u32) -> f64
+    requires { tol ≤ 3 }
+    ensures { result ≡ edge_coverage (inked frame.now.mask) frame.now.rect tol }
 {
-    let top = share(mask, top_band(f, tol), Lines::Columns);
-    let bottom = share(mask, bottom_band(f, tol), Lines::Columns);
-    let left = share(mask, left_band(f, tol), Lines::Rows);
-    let right = share(mask, right_band(f, tol), Lines::Rows);
+    let f = frame.rect;
+    let top = share(&frame.part(top_band(f, tol)), Lines::Columns);
+    let bottom = share(&frame.part(bottom_band(f, tol)), Lines::Columns);
+    let left = share(&frame.part(left_band(f, tol)), Lines::Rows);
+    let right = share(&frame.part(right_band(f, tol)), Lines::Rows);
     select::min(select::min(select::min(top, bottom), left), right)
 }

@@ -1,11 +1,9 @@
-// The inner half of a frame, and the mark that its ink gives.
-ghost use Rattle.std.specs.Prelude.{◌≡◌, ◌+◌, ◌/◌, ◌^◌, ◌<◌, ◌≤◌, if◌then◌else◌};
-ghost use Rattle.std.specs.Float.Ieee.{le};
+// The inner half of a frame, and how much of it is ink.
+ghost use Rattle.std.specs.Prelude.{◌≡◌, ◌+◌, ◌/◌, ◌^◌, ◌<◌, ◌≤◌};
 ghost use Rattle.ink.specs.Ink.{inked};
-ghost use Rattle.ink.specs.Steps.{Readable};
 ghost use Rattle.glyph_tests.specs.Tests.{inner_half, inner_ink};
 
-use ink::Mask;
+use ink::Region;
 use rects::Rect;
 
 fn quarter(n: u32) -> u32
@@ -29,19 +27,11 @@ fn inner_half(f: Rect) -> Rect
 }
 
 // The inked share of the inner half.
-pub fn inner_ink(mask: &Mask, f: Rect) -> f64
-    requires { Readable mask.now f }
-    ensures { result ≡ inner_ink (inked mask.now) f }
+pub fn inner_ink(frame: &Region) -> f64
+    ensures { result ≡ inner_ink (inked frame.now.mask) frame.now.rect }
 {
-    let half = inner_half(f);
-    let inked = mask.ink_in(half);
+    let half = frame.part(inner_half(frame.rect));
+    let inked = half.ink_in();
     let total = half.width() * half.height();
     f64::from(inked) / f64::from(total)
-}
-
-// 1 ticked, 0 empty.
-pub fn mark_of(inner: f64, checked: f64) -> u32
-    ensures { result ≡ (if le checked inner then 1 else 0) }
-{
-    u32::from(inner >= checked)
 }

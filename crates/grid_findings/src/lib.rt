@@ -12,7 +12,7 @@ ghost use Rattle.grid_findings.specs.Boxes.{sets_of};
 
 pub mod sources;
 
-use evidence::finding::Finding;
+use evidence::finding::{Finding, KindName};
 use finding_lists::lent::LentFindings;
 use finding_lists::put;
 use findings::places;
@@ -24,12 +24,8 @@ fn set_at<'b>(boxes: &'b BoxLists, k: usize) -> &'b [u32]
     requires { k < length boxes.now.grids }
     ensures { result.now ≡ sets_of boxes.now (get_or boxes.now.grids k 0) }
 {
-    listings::members_of(
-        boxes.members,
-        boxes.ends,
-        boxes.count,
-        boxes.grids[k] as usize,
-    )
+    let sets = &boxes.sets;
+    sets.at(boxes.grids[k] as usize)
 }
 
 // The keys of the grids' findings, from place `at` of the list on.
@@ -39,15 +35,15 @@ pub fn keys(scan: &Scan, boxes: &BoxLists, at: usize, keys: &mut [u64])
     ensures { keys.new ≡ sets keys.old at
         (map (λ n. grid_key scan.now.sides scan.now.shear scan.now.shear_x boxes.now.rects (sets_of boxes.now n)) boxes.now.grids) }
 {
-    findings::keys::put_all(
-        |k| scan.key_around(boxes.rects, set_at(boxes, k), 18),
+    lists::put_all(
+        |k| scan.key_around(boxes.rects, set_at(boxes, k), KindName::Grid),
         boxes.grids.len(),
         at,
         keys,
     );
 }
 
-// The finding of the grid that is a set of boxes. A box is ticked where its mark is 1.
+// The finding of the grid that is a set of boxes. A box is ticked where its mark is 1, as C's list of marks holds it.
 pub fn finding(scan: &Scan, boxes: &BoxLists, set: &[u32]) -> Finding
     requires { (0 < length set.now) × AllGiven scan.now.sides.w scan.now.sides.h boxes.now.rects boxes.now.marks
         boxes.now.coverages set.now }

@@ -1,6 +1,7 @@
 // The boxes that grids' findings are made from.
 ghost use Rattle.grid_findings.specs.Boxes.{Boxes};
 
+use listings::listed::Sets;
 use std::marker::Model;
 
 // The boxes, the listing of their sets, and the numbers of the sets that are grids.
@@ -9,9 +10,7 @@ pub struct BoxLists<'a> {
     pub rects: &'a [u32],
     pub marks: &'a [u32],
     pub coverages: &'a [f64],
-    pub members: &'a [u32],
-    pub ends: &'a [u32],
-    pub count: usize,
+    pub sets: Sets<'a>,
     pub grids: &'a [u32],
 }
 
@@ -22,9 +21,9 @@ impl<'a> Model for BoxLists<'a> {
       rects = b.rects.now;
       marks = b.marks.now;
       coverages = b.coverages.now;
-      members = b.members.now;
-      ends = b.ends.now;
-      count = b.count;
+      members = b.sets.members.now;
+      ends = b.sets.ends.now;
+      count = b.sets.count;
       grids = b.grids.now;
     } };
 }

@@ -10,6 +10,7 @@ pub fn choose(sets: &Sets, least: u32, numbers: &mut [u32]) -> usize
     requires { (sets.now.count < 2 ^ 32) × (sets.now.count ≤ length numbers.old) }
     ensures { Chose least (set_of sets.now) sets.now.count numbers.old numbers.new result }
 {
+    // The number steps by hand, since only what is listed counts.
     let mut grids = 0;
     for k in 0..sets.count {
         let set = sets.at(k);

@@ -3,16 +3,19 @@ use mathlib.Core.Path.{◌≡◌, refl, sym, ap, ◌∙◌}
 use mathlib.Core.Bool.{Bool, true, false, cond, not, ◌||◌}
 use mathlib.Core.List.{List, [], ◌∷◌}
 use Prim.Native.Nat.{ℕ, suc, ◌+◌, ◌-◌, ◌*◌, ◌≤◌, ◌<◌}
-use native.Mathlib.Nat.{suc-mul, mul-le-mul_right, le_trans}
+use native.Mathlib.Nat.{suc-mul, mul-le-mul_right}
 use native.Mathlib.Numerals.{add-one}
 use native.Mathlib.Omega.{arith}
 use lib.Dec.{eqb, ltb}
 use Rattle.std.specs.Int.{from_bool}
+use Rattle.std.specs.List.{list_any, range_with_len}
+use Rattle.std.proofs.lemmas.List.{ext_get_or}
+use Rattle.std.proofs.lemmas.List.FromFn.{length-range_with_len, get_or-range_with_len}
 use borrow.Author.Tests.{lt-ltb, le-ltb}
 use lib.ListN.{length, get_or, take, drop, length-append, length-drop}
 use lib.Seq.{length-take-le, get_or-take, get_or-drop}
 use Rattle.lists.specs.Lists.{below, keep, any}
-use Rattle.lists.proofs.Keep.{keep_append, keep_below_same, length_below, true_any, in_below}
+use Rattle.lists.proofs.Keep.{keep_append, keep_below_same, length_below, get_d_below, true_any, in_below}
 use Rattle.lists.proofs.Sizes.{keep_size_le, keep_none}
 use Rattle.rects.specs.Rects.{width_of, height_of}
 use Rattle.rects.specs.declared.Rect.{Rect}
@@ -51,6 +54,19 @@ some_any q (x ∷ xs) = go (some_any q xs) (q x)
     go e true = lt-ltb 0 (suc (length (keep q xs))) (omega arith)
     go e false = e
 
+-- a chain over the places asks the same
+pub some_in_range : (q : ℕ → Bool) (n : ℕ) → list_any q (range_with_len 0 n) ≡ ltb 0 (many q n)
+some_in_range q n = ap (list_any q) all ∙ go (below n) ∙ sym (some_any q (below n))
+  where
+    all : range_with_len 0 n ≡ below n
+    all =
+        ext_get_or 0 (range_with_len 0 n) (below n) (length-range_with_len 0 n ∙ sym (length_below n))
+        (λ i l. let h : i < n = omega (arith, l, length-range_with_len 0 n) in omega (arith, get_or-range_with_len 0 n i 0 h, get_d_below n i h))
+
+    go : (s : List ℕ) → list_any q s ≡ any q s
+    go [] = refl
+    go (x ∷ xs) = ap (λ (b : Bool). q x || b) (go xs)
+
 pub one_passes : (q : ℕ → Bool) (n i : ℕ) → i < n → q i ≡ true → true ≡ ltb 0 (many q n)
 one_passes q n i l t = sym (some_any q (below n) ∙ true_any q (below n) i (in_below n i l) t)
 
@@ -64,18 +80,6 @@ pub row_in_mask : (m : Mask) (r : Rect) → Readable m r → (j : ℕ) → j < h
 row_in_mask m r R j l =
     let a : suc (r.y0 + j) * m.w ≤ suc r.y1 * m.w = mul-le-mul_right m.w (omega (arith, R.high)) in
     omega (arith, suc-mul (r.y0 + j) m.w, R.right, R.bottom)
-
--- a rectangle inside another is readable too
-pub readable_inside : (m : Mask) (r s : Rect) → Readable m r → s.x0 ≤ s.x1 → s.y0 ≤ s.y1 → s.x1 ≤ r.x1 → s.y1 ≤ r.y1 → Readable m s
-readable_inside m r s R a b c d =
-    record {
-      narrow = R.narrow;
-      low = omega (arith, R.low);
-      wide = a;
-      high = b;
-      right = omega (arith, R.right);
-      bottom = le_trans (mul-le-mul_right m.w (omega arith)) R.bottom;
-    }
 
 -- the bytes of a row's span are the ink there
 pub span_ink : (m : Mask) (r : Rect) (j s n : ℕ) → s ≡ (r.y0 + j) * m.w + r.x0 → n ≡ width_of r

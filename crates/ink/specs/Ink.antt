@@ -21,6 +21,11 @@ pub record Mask : Type 0 where
 abbrev pub inked : Mask → Ink
 inked m = ink_at m.w m.bytes
 
+-- A rectangle of a mask.
+pub record Region : Type 0 where
+  pub mask : Mask
+  pub rect : Rect
+
 -- How many numbers below n pass a test.
 abbrev pub many : (ℕ → Bool) → ℕ → ℕ
 many q n = length (keep q (below n))

@@ -24,6 +24,13 @@ pub record Readable (m : Mask) (r : Rect) : Type 0 where
   pub right : r.x1 < m.w
   pub bottom : suc r.y1 * m.w ≤ length m.bytes
 
+-- An ordered rectangle that ends no farther right and no lower than another, and can be read where that one can.
+pub record Within (s r : Rect) : Type 0 where
+  pub wide : s.x0 ≤ s.x1
+  pub high : s.y0 ≤ s.y1
+  pub right : s.x1 ≤ r.x1
+  pub bottom : s.y1 ≤ r.y1
+
 -- What the two are.
 pub record First (q : ℕ → Bool) (n k : ℕ) : Type 0 where
   pub within : k ≤ n

@@ -2,7 +2,9 @@
 #![tactic(auto)]
 
 ghost use Rattle.ink.specs.Ink as Ink;
+ghost use Rattle.ink.specs.Steps.{Readable};
 
+use rects::Rect;
 use std::marker::Model;
 
 pub mod read;
@@ -20,7 +22,22 @@ impl<'a> Model for Mask<'a> {
     ghost view = { λ m. record { bytes = m.bytes.now; w = m.w } };
 }
 
-// Which lines of a rectangle are read.
+// A rectangle of a mask, in order and inside it.
+#[derive(Drop)]
+pub struct Region<'a> {
+    pub mask: &'a Mask<'a>,
+    pub rect: Rect,
+}
+
+impl<'a> Model for Region<'a> {
+    ghost Value = { Ink.Region };
+
+    ghost view = { λ r. record { mask = r.mask.now; rect = r.rect } };
+
+    ghost invariant = { λ r. Readable r.mask.now r.rect };
+}
+
+// Which lines of a region are read.
 #[derive(Clone, Copy)]
 pub enum Lines {
     Rows,

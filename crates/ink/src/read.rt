@@ -1,11 +1,11 @@
-// Reading a mask, and counting ink in rows, columns and rectangles.
+// Reading a mask, and counting ink in the rows and columns of a region and in all of it.
 ghost use Rattle.std.specs.Prelude.{◌≡◌, not, ◌+◌, ◌*◌, ◌≤◌, ◌<◌, eqb, ltb, length, get_or};
 ghost use Rattle.rects.specs.Rects.{width_of, height_of};
 ghost use Rattle.ink.specs.Ink.{inked, many, row_ink, column_ink, ink_in};
 ghost use Rattle.ink.specs.Places.{over};
-ghost use Rattle.ink.specs.Steps.{Readable};
+ghost use Rattle.ink.specs.Steps.{Readable, Within};
 
-use crate::Mask;
+use crate::{Mask, Region};
 use rects::Rect;
 
 // How many bytes of a part of a row are ink.
@@ -20,7 +20,7 @@ fn count_ink(row: &[u8]) -> u32
     n
 }
 
-impl Mask<'_> {
+impl<'a> Mask<'a> {
     // Is there ink in column x of row y?
     pub fn is_ink(&self, x: usize, y: usize) -> bool
         requires { y * self.now.w + x < length self.now.bytes }
@@ -28,72 +28,108 @@ impl Mask<'_> {
     {
         self.bytes[y * self.w + x] != 0
     }
+}
 
-    // The ink in row j of a rectangle.
-    pub fn row_count(&self, r: Rect, j: u32) -> u32
-        requires { Readable self.now r × (j < height_of r) }
-        ensures { result ≡ row_ink (inked self.now) r j }
+impl<'a> Region<'a> {
+    // A rectangle of a mask.
+    pub fn new(mask: &'a Mask<'a>, rect: Rect) -> Region<'a>
+        requires { Readable mask.now rect }
+        ensures { result ≡ record { mask = mask.now; rect = rect } }
     {
-        let start = (r.y0 + j) as usize * self.w + r.x0 as usize;
-        let end = start + r.width() as usize;
-        count_ink(&self.bytes[start..end])
+        Region { mask, rect }
     }
 
-    // The ink in column i of a rectangle.
-    pub fn column_count(&self, r: Rect, i: u32) -> u32
-        requires { Readable self.now r × (i < width_of r) }
-        ensures { result ≡ column_ink (inked self.now) r i }
+    // Another rectangle of its mask, which ends inside the region.
+    pub fn part(&self, rect: Rect) -> Region<'a>
+        requires { Within rect self.now.rect }
+        ensures { result ≡ record { mask = self.now.mask; rect = rect } }
     {
+        Region {
+            mask: self.mask,
+            rect,
+        }
+    }
+
+    // How many columns it has.
+    pub fn width(&self) -> u32
+        ensures { (result ≡ width_of self.now.rect) × Readable self.now.mask self.now.rect }
+    {
+        self.rect.width()
+    }
+
+    // How many rows it has.
+    pub fn height(&self) -> u32
+        ensures { (result ≡ height_of self.now.rect) × Readable self.now.mask self.now.rect }
+    {
+        self.rect.height()
+    }
+
+    // The ink in row j.
+    pub fn row_count(&self, j: u32) -> u32
+        requires { j < height_of self.now.rect }
+        ensures { result ≡ row_ink (inked self.now.mask) self.now.rect j }
+    {
+        let r = self.rect;
+        let mask = self.mask;
+        let start = (r.y0 + j) as usize * mask.w + r.x0 as usize;
+        let end = start + r.width() as usize;
+        count_ink(&mask.bytes[start..end])
+    }
+
+    // The ink in column i.
+    pub fn column_count(&self, i: u32) -> u32
+        requires { i < width_of self.now.rect }
+        ensures { result ≡ column_ink (inked self.now.mask) self.now.rect i }
+    {
+        let r = self.rect;
         let x = (r.x0 + i) as usize;
         let y = r.y0 as usize;
         let rows = r.height() as usize;
         let mut n = 0;
         for j in 0..rows {
-            n += u32::from(self.is_ink(x, y + j));
+            n += u32::from(self.mask.is_ink(x, y + j));
         }
         n
     }
 
-    // Is there ink in row j of a rectangle?
-    pub fn row_has_ink(&self, r: Rect, j: u32) -> bool
-        requires { Readable self.now r × (j < height_of r) }
-        ensures { result ≡ ltb 0 (row_ink (inked self.now) r j) }
+    // Is there ink in row j? A loop, since `any` over the places tests for the end twice and takes a fourth longer.
+    pub fn row_has_ink(&self, j: u32) -> bool
+        requires { j < height_of self.now.rect }
+        ensures { result ≡ ltb 0 (row_ink (inked self.now.mask) self.now.rect j) }
     {
+        let r = self.rect;
         let x = r.x0 as usize;
         let y = (r.y0 + j) as usize;
         let columns = r.width() as usize;
         for i in 0..columns {
-            if self.is_ink(x + i, y) {
+            if self.mask.is_ink(x + i, y) {
                 return true;
             }
         }
         false
     }
 
-    // Is there ink in column i of a rectangle?
-    pub fn column_has_ink(&self, r: Rect, i: u32) -> bool
-        requires { Readable self.now r × (i < width_of r) }
-        ensures { result ≡ ltb 0 (column_ink (inked self.now) r i) }
+    // Is there ink in column i? One function for rows and columns would be no plainer: it would need the step from place to place, and over
+    // a column, whose places lie a row apart, `any` takes no longer than a loop.
+    pub fn column_has_ink(&self, i: u32) -> bool
+        requires { i < width_of self.now.rect }
+        ensures { result ≡ ltb 0 (column_ink (inked self.now.mask) self.now.rect i) }
     {
+        let r = self.rect;
         let x = (r.x0 + i) as usize;
         let y = r.y0 as usize;
         let rows = r.height() as usize;
-        for j in 0..rows {
-            if self.is_ink(x, y + j) {
-                return true;
-            }
-        }
-        false
+        let mask = self.mask;
+        (0..rows).any(|j| mask.is_ink(x, y + j))
     }
 
-    // The ink in a rectangle.
-    pub fn ink_in(&self, r: Rect) -> u32
-        requires { Readable self.now r }
-        ensures { result ≡ ink_in (inked self.now) r }
+    // The ink in it.
+    pub fn ink_in(&self) -> u32
+        ensures { result ≡ ink_in (inked self.now.mask) self.now.rect }
     {
         let mut n = 0;
-        for j in 0..r.height() {
-            n += self.row_count(r, j);
+        for j in 0..self.height() {
+            n += self.row_count(j);
         }
         n
     }

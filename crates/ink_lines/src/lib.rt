@@ -1,12 +1,12 @@
-// The lines of a rectangle, its rows or its columns: the first and the last over a limit, and the longest run of lines with ink.
+// The lines of a region, its rows or its columns: the first and the last over a limit, and the longest run of lines with ink.
 #![tactic(auto)]
 
 ghost use Rattle.std.specs.Prelude.{◌≡◌, cond, false, ℕ, suc, ◌+◌, ◌^◌, ◌≤◌, ◌<◌, ltb};
 ghost use Rattle.ink.specs.Ink.{inked};
-ghost use Rattle.ink.specs.Steps.{lines_of, line_ink, Readable};
+ghost use Rattle.ink.specs.Steps.{lines_of, line_ink};
 ghost use Rattle.ink.specs.Places.{over, first_place, last_end, longest_run};
 
-use ink::{Lines, Mask, read};
+use ink::{Lines, Region, read};
 use rects::Rect;
 
 // How many lines there are.
@@ -21,73 +21,71 @@ pub fn lines_of(r: Rect, lines: Lines) -> u32
 }
 
 // The ink in line k.
-fn line_count(mask: &Mask, r: Rect, lines: Lines, k: u32) -> u32
-    requires { Readable mask.now r × (k < lines_of r lines) }
-    ensures { result ≡ line_ink (inked mask.now) r lines k }
+fn line_count(r: &Region, lines: Lines, k: u32) -> u32
+    requires { k < lines_of r.now.rect lines }
+    ensures { result ≡ line_ink (inked r.now.mask) r.now.rect lines k }
 {
     match lines {
-        Lines::Rows => mask.row_count(r, k),
-        Lines::Columns => mask.column_count(r, k),
+        Lines::Rows => r.row_count(k),
+        Lines::Columns => r.column_count(k),
     }
 }
 
 // Has line k any ink?
-fn line_has_ink(mask: &Mask, r: Rect, lines: Lines, k: u32) -> bool
-    requires { Readable mask.now r × (k < lines_of r lines) }
-    ensures { result ≡ ltb 0 (line_ink (inked mask.now) r lines k) }
+fn line_has_ink(r: &Region, lines: Lines, k: u32) -> bool
+    requires { k < lines_of r.now.rect lines }
+    ensures { result ≡ ltb 0 (line_ink (inked r.now.mask) r.now.rect lines k) }
 {
     match lines {
-        Lines::Rows => mask.row_has_ink(r, k),
-        Lines::Columns => mask.column_has_ink(r, k),
+        Lines::Rows => r.row_has_ink(k),
+        Lines::Columns => r.column_has_ink(k),
     }
 }
 
 // How many lines may be passed over from the front, since none of them is over the limit: columns are tried in bands.
-fn passed_from_front(mask: &Mask, r: Rect, lines: Lines, limit: f64) -> u32
-    requires { Readable mask.now r }
-    ensures { (result ≤ lines_of r lines) × ((i : ℕ) → i < result → over limit (line_ink (inked mask.now) r lines i) ≡ false) }
+fn passed_from_front(r: &Region, lines: Lines, limit: f64) -> u32
+    ensures { (result ≤ lines_of r.now.rect lines) × ((i : ℕ) → i < result → over limit (line_ink (inked r.now.mask) r.now.rect lines i) ≡ false) }
 {
     match lines {
         Lines::Rows => 0,
-        Lines::Columns => ink_bands::first_columns(mask, r, limit),
+        Lines::Columns => ink_bands::first_columns(r, limit),
     }
 }
 
 // Where those begin that may be passed over from the back.
-fn passed_from_back(mask: &Mask, r: Rect, lines: Lines, limit: f64) -> u32
-    requires { Readable mask.now r }
-    ensures { (result ≤ lines_of r lines)
-        × ((i : ℕ) → result ≤ i → i < lines_of r lines → over limit (line_ink (inked mask.now) r lines i) ≡ false) }
+fn passed_from_back(r: &Region, lines: Lines, limit: f64) -> u32
+    ensures { (result ≤ lines_of r.now.rect lines)
+        × ((i : ℕ) → result ≤ i → i < lines_of r.now.rect lines → over limit (line_ink (inked r.now.mask) r.now.rect lines i) ≡ false) }
 {
     match lines {
         Lines::Rows => r.height(),
-        Lines::Columns => ink_bands::last_columns(mask, r, limit),
+        Lines::Columns => ink_bands::last_columns(r, limit),
     }
 }
 
-// The first line whose ink is over the limit, and the number of lines where none is.
-pub fn first_line(mask: &Mask, r: Rect, lines: Lines, limit: f64) -> u32
-    requires { Readable mask.now r }
-    ensures { result ≡ first_place (λ k. over limit (line_ink (inked mask.now) r lines k)) (lines_of r lines) }
+// The first line whose ink is over the limit, and the number of lines where none is. A number and no `Option`: it is where the search
+// stopped, and a caller compares it with the number of lines.
+pub fn first_line(r: &Region, lines: Lines, limit: f64) -> u32
+    ensures { result ≡ first_place (λ k. over limit (line_ink (inked r.now.mask) r.now.rect lines k)) (lines_of r.now.rect lines) }
 {
-    let n = lines_of(r, lines);
-    let passed = passed_from_front(mask, r, lines, limit);
+    let n = lines_of(r.rect, lines);
+    let passed = passed_from_front(r, lines, limit);
     for k in passed..n {
-        if read::is_over(limit, line_count(mask, r, lines, k)) {
+        if read::is_over(limit, line_count(r, lines, k)) {
             return k;
         }
     }
     n
 }
 
-// One more than the last line whose ink is over the limit, and 0 where none is.
-pub fn last_line_end(mask: &Mask, r: Rect, lines: Lines, limit: f64) -> u32
-    requires { Readable mask.now r }
-    ensures { result ≡ last_end (λ k. over limit (line_ink (inked mask.now) r lines k)) (lines_of r lines) }
+// One more than the last line whose ink is over the limit, and 0 where none is. A number and no `Option`: it is an end, and a caller asks
+// for it where `first_line` found a line.
+pub fn last_line_end(r: &Region, lines: Lines, limit: f64) -> u32
+    ensures { result ≡ last_end (λ k. over limit (line_ink (inked r.now.mask) r.now.rect lines k)) (lines_of r.now.rect lines) }
 {
-    let end = passed_from_back(mask, r, lines, limit);
+    let end = passed_from_back(r, lines, limit);
     for k in (0..end).rev() {
-        if read::is_over(limit, line_count(mask, r, lines, k)) {
+        if read::is_over(limit, line_count(r, lines, k)) {
             return k + 1;
         }
     }
@@ -95,20 +93,19 @@ pub fn last_line_end(mask: &Mask, r: Rect, lines: Lines, limit: f64) -> u32
 }
 
 // The longest unbroken run of lines that have ink.
-pub fn longest(mask: &Mask, r: Rect, lines: Lines) -> u32
-    requires { Readable mask.now r }
-    ensures { result ≡ longest_run (λ k. ltb 0 (line_ink (inked mask.now) r lines k)) (lines_of r lines) }
+pub fn longest(r: &Region, lines: Lines) -> u32
+    ensures { result ≡ longest_run (λ k. ltb 0 (line_ink (inked r.now.mask) r.now.rect lines k)) (lines_of r.now.rect lines) }
 {
     let mut best = 0;
     let mut run = 0;
-    for k in 0..lines_of(r, lines) {
-        run = longer_run(run, line_has_ink(mask, r, lines, k));
+    for k in 0..lines_of(r.rect, lines) {
+        run = longer_run(run, line_has_ink(r, lines, k));
         best = best.max(run);
     }
     best
 }
 
-// One longer where the line has ink, and 0 at a gap.
+// One longer where the line has ink, and 0 at a gap. `inked` is a bool, since it is what a test found.
 fn longer_run(run: u32, inked: bool) -> u32
     requires { run < 8192 }
     ensures { result ≡ cond inked (suc run) 0 }

@@ -1,11 +1,11 @@
 // The joined ends of a set's rulings, and their share. The members are put in the order of their doubled centres, so that each end is held
 // only against those that are near enough.
-ghost use Rattle.std.specs.Prelude.{◌≡◌, ◌+◌, ◌<◌, ◌≤◌, ◌^◌, length};
+ghost use Rattle.std.specs.Prelude.{◌≡◌, ◌+◌, ◌<◌, ◌≤◌, length, get_or};
 ghost use Rattle.lists.specs.Lists.{any, one};
 ghost use Rattle.meeting.specs.Segments.{ruling, joins_end};
 ghost use Rattle.meeting.specs.Meeting.{end_joined, joined_ends, share_of};
 ghost use Rattle.meeting.specs.Steps.{IndexesBelow};
-ghost use Rattle.junctions.specs.Steps.{centre_key, first_key, last_key, MembersKeyed, MembersOrdered};
+ghost use Rattle.junctions.specs.Steps.{centre_key, first_key, last_key, MembersOrdered};
 
 use meeting::segment::{Rulings, Segment};
 
@@ -17,43 +17,40 @@ fn key_of(a: Segment) -> u64
 }
 
 // The first and the last key of those that may join an end of ruling a.
-fn first_key(a: Segment, end: u32, join: u64) -> u64
-    requires { join < 2 ^ 32 }
+fn first_key(a: Segment, end: u32, join: u32) -> u64
     ensures { result ≡ first_key join end a }
 {
     let across = sorted::offset(!a.horizontal);
-    across + (2 * u64::from(end)).saturating_sub(2 * join + 2)
+    across + (2 * u64::from(end)).saturating_sub(2 * u64::from(join) + 2)
 }
 
-fn last_key(a: Segment, end: u32, join: u64) -> u64
-    requires { join < 2 ^ 32 }
+fn last_key(a: Segment, end: u32, join: u32) -> u64
     ensures { result ≡ last_key join end a }
 {
     let across = sorted::offset(!a.horizontal);
-    across + (2 * u64::from(end) + (2 * join + 2))
+    across + (2 * u64::from(end) + (2 * u64::from(join) + 2))
 }
 
-// Writes the key of each member of the set.
-fn write_keys(rulings: &Rulings, set: &[u32], keys: &mut [u64])
-    requires { IndexesBelow (length rulings.now.chosen) set.now × (length set.now ≤ length keys.old) }
-    ensures { MembersKeyed (ruling rulings.now) set.now keys.new }
+// The key of the member at place k of the set.
+fn key_at(rulings: &Rulings, set: &[u32], k: usize) -> u64
+    requires { IndexesBelow (length rulings.now.chosen) set.now × (k < length set.now) }
+    ensures { result ≡ centre_key (ruling rulings.now (get_or set.now k 0)) }
 {
-    for (k, i) in set.iter().enumerate() {
-        keys[k] = key_of(rulings.at(*i as usize));
-    }
+    key_of(rulings.at(set[k] as usize))
 }
 
-// Is an end of ruling a joined by a member of the set? Only those with a key between the first and the last can join it.
+// Is an end of ruling a joined by a member of the set? Only those with a key between the first and the last can join it. That they stand in
+// order is a fact of the lists beside them: these are lent to sort in, and a struct would be made anew for each set.
 fn joined(
     rulings: &Rulings,
     set: &[u32],
     keys: &[u64],
     order: &[u32],
-    join: u64,
+    join: u32,
     a: Segment,
     end: u32,
 ) -> bool
-    requires { (join < 2 ^ 32) × IndexesBelow (length rulings.now.chosen) set.now
+    requires { IndexesBelow (length rulings.now.chosen) set.now
         × MembersOrdered (ruling rulings.now) set.now keys.now order.now }
     ensures { result ≡ any (λ j. joins_end join end a (ruling rulings.now j)) set.now }
 {
@@ -78,10 +75,10 @@ fn joined_of(
     set: &[u32],
     keys: &[u64],
     order: &[u32],
-    join: u64,
+    join: u32,
     i: usize,
 ) -> usize
-    requires { (join < 2 ^ 32) × IndexesBelow (length rulings.now.chosen) set.now
+    requires { IndexesBelow (length rulings.now.chosen) set.now
         × MembersOrdered (ruling rulings.now) set.now keys.now order.now × (i < length rulings.now.chosen) }
     ensures { result ≡ one (end_joined join (ruling rulings.now) set.now
         (ruling rulings.now i).start i)
@@ -94,8 +91,8 @@ fn joined_of(
     usize::from(start) + usize::from(end)
 }
 
-fn joined_ends(rulings: &Rulings, set: &[u32], keys: &[u64], order: &[u32], join: u64) -> usize
-    requires { (join < 2 ^ 32) × IndexesBelow (length rulings.now.chosen) set.now
+fn joined_ends(rulings: &Rulings, set: &[u32], keys: &[u64], order: &[u32], join: u32) -> usize
+    requires { IndexesBelow (length rulings.now.chosen) set.now
         × MembersOrdered (ruling rulings.now) set.now keys.now order.now }
     ensures { result ≡ joined_ends join (ruling rulings.now) set.now }
 {
@@ -110,19 +107,18 @@ fn joined_ends(rulings: &Rulings, set: &[u32], keys: &[u64], order: &[u32], join
 pub fn share(
     rulings: &Rulings,
     set: &[u32],
-    join: u64,
+    join: u32,
     order: &mut [u32],
     work: &mut [u32],
     keys: &mut [u64],
 ) -> f64
-    requires join_bound { (join < 2 ^ 32) × IndexesBelow (length rulings.now.chosen) set.now }
-    requires set_in_bounds { (length set.now ≤ length order.old) × (length set.now ≤ length work.old) × (length set.now ≤ length keys.old) }
+    requires known { IndexesBelow (length rulings.now.chosen) set.now }
+    requires room { (length set.now ≤ length order.old) × (length set.now ≤ length work.old) × (length set.now ≤ length keys.old) }
     ensures { result ≡ share_of join (ruling rulings.now) set.now }
 {
     // Opened for the proof: at most 4,096 are chosen, so that both counts are exact as floats.
     let _ = &rulings.chosen;
-    write_keys(rulings, set, keys);
-    sorted::arrange(keys, set.len(), order, work);
+    sorted::arrange_by(|k| key_at(rulings, set, k), set.len(), order, work, keys);
     let joined = joined_ends(rulings, set, keys, order, join);
     // By `as`, since there is no `From` from usize to f64.
     joined as f64 / (2 * set.len()) as f64

@@ -14,6 +14,7 @@ use Rattle.lanegravel.specs.declared.detect_lists.Work.{Work}
 use Rattle.lanegravel.specs.declared.detect_lists.Facts.{Facts}
 use Rattle.lanegravel.specs.declared.detect_lists.Scores.{Scores}
 
+-- Three records for three structs, which stand apart since C's functions take none with a type parameter.
 pub record SameBytes (l l' : Bytes) : Type 0 where
   pub list : l'.list.ref_ptr ≡ l.list.ref_ptr
 

@@ -1,5 +1,8 @@
 // The lists that C lends to `lanegravel_detect`, so many one behind the other in memory: one field a list.
 
+// `Bytes`, `Words` and `Keys` differ in a type alone; one struct for the three is refused: "a struct with type or const arguments, or an
+// associated type that is not known, is not supported yet in the signature of an exported function".
+
 // One list of bytes.
 #[repr(C)]
 pub struct Bytes<'l> {

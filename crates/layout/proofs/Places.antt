@@ -5,19 +5,13 @@ use mathlib.Core.List.{List, [], ◌∷◌, ◌++◌}
 use Prim.Native.Nat.{ℕ, zero, suc, ◌+◌, ◌*◌, ◌/◌, ◌%◌, ◌≤◌, ◌<◌}
 use native.Mathlib.Nat.{eq-or-lt_of_le, le_of_suc-le-suc, mul-le-mul, mul-le-mul_right, mul_comm, suc-mul, mul-suc, zero-mul, mul-zero, div-add-mod', mod-lt, div-lt_iff_lt-mul}
 use native.Mathlib.Omega.{arith}
-use mathlib.Core.Bool.{Bool, true, false}
-use lib.Dec.{leb}
-use borrow.Author.Tests.{leb-true, leb-false}
 use lib.ListN.{length, get_or, length-append, get_or-append}
 use lib.Seq.{ext_get_or, get_or-append-add}
+use Rattle.std.proofs.lemmas.Bool.{cases_lt}
 use Rattle.layout.specs.Raster.{raster_row, raster}
 
 pub le_or_lt : (a b : ℕ) → (a ≤ b) ⊎ (b < a)
-le_or_lt a b = at (leb a b) refl
-  where
-    at : (t : Bool) → leb a b ≡ t → (a ≤ b) ⊎ (b < a)
-    at true e = inl (leb-true a b e)
-    at false e = inr (leb-false a b e)
+le_or_lt a b = ⊎_elim inr inl (cases_lt b a)
 
 -- sides of at most 8,192 have a product far below 2 ^ 63
 pub small_product : {a b : ℕ} → a ≤ 8192 → b ≤ 8192 → a * b ≤ 67108864

@@ -21,7 +21,7 @@ fn difference(a: usize, b: usize) -> i64
     requires { (a ≤ 8192) × (b ≤ 8192) }
     ensures { result ≡ sub_ℕ a b }
 {
-    // There is no `From` between them.
+    // By `as`, since there is no `From` from usize to i64.
     (a as i64) - (b as i64)
 }
 

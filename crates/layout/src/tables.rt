@@ -33,12 +33,7 @@ fn entry_fits(z: i32, limit: usize) -> bool
 pub fn entries_fit(table: &[i32], limit: usize) -> bool
     ensures { result ≡ entries_fit limit table.now }
 {
-    for z in table {
-        if !entry_fits(*z, limit) {
-            return false;
-        }
-    }
-    true
+    table.iter().all(|z| entry_fits(*z, limit))
 }
 
 impl Shears<'_> {

@@ -11,7 +11,8 @@ ghost use Rattle.layout.specs.Steps.{shears_of};
 ghost use Rattle.layout.specs.Level.{column_shows, page_shows, levelled};
 
 use layout::sides::Sides;
-use layout::tables::Shears;
+use layout::tables::{self, Shears};
+use shear_runs::bands::Rows;
 use shear_runs::columns::Part;
 use shear_runs::{bands, columns};
 
@@ -52,13 +53,15 @@ fn level_pixels(shears: &Shears, gray: &[u8], out: &mut [u8], from: usize, y: us
     requires { Sheets (shears_of shears.now) gray.now × (from + length out.old ≤ shears.now.sides.pw) }
     ensures { Painted (page_shows shears.now.sides gray.now shears.now.shear.now) from y out.old out.new }
 {
+    let sides = shears.sides;
+    let table = shears.shear;
     for (k, pixel) in out.iter_mut().enumerate() {
         let x = from + k;
-        *pixel = level_pixel(shears.sides, gray, x, shears.down(x), y);
+        *pixel = level_pixel(sides, gray, x, tables::entry_at(table, x), y);
     }
 }
 
-// Page columns that are levelled together, as levelled row y shows them.
+// Page columns that are levelled together, as levelled row y shows them. `run` is a bool, since it is what a test of the table found.
 fn level_together(shears: &Shears, gray: &[u8], out: &mut [u8], from: usize, run: bool, y: usize)
     requires { Sheets (shears_of shears.now) gray.now × ((from + length out.old ≤ shears.now.sides.pw) × Together shears.now.shear.now from (from + length out.old) run) }
     ensures { Painted (page_shows shears.now.sides gray.now shears.now.shear.now) from y out.old out.new }
@@ -69,39 +72,32 @@ fn level_together(shears: &Shears, gray: &[u8], out: &mut [u8], from: usize, run
     level_pixels(shears, gray, out, from, y)
 }
 
-// The columns of one part, in row y.
-fn level_part(shears: &Shears, gray: &[u8], out: &mut [u8], from: usize, part: Part, y: usize)
-    requires { Ready (shears_of shears.now) gray.now out.old × (Together shears.now.shear.now from part.to part.run × (y < shears.now.sides.h)) }
-    ensures { LevelledArea (shears_of shears.now) gray.now (Columns (entry shears.now.shear_x.now) from part.to) y
+// The columns of one part, in row y. `Ready` is a fact of each step and no struct's: the rasters come and go beside `Shears`, which has no
+// model, since laws and code both speak of its fields.
+fn level_part(shears: &Shears, gray: &[u8], out: &mut [u8], part: Part, y: usize)
+    requires { Ready (shears_of shears.now) gray.now out.old × (Together shears.now.shear.now part.from part.to part.run × (y < shears.now.sides.h)) }
+    ensures { LevelledArea (shears_of shears.now) gray.now (Columns (entry shears.now.shear_x.now) part.from part.to) y
         (y + 1) out.old out.new }
 {
     let page = y * shears.sides.w + shears.across(y);
     level_together(
         shears,
         gray,
-        &mut out[page + from..page + part.to],
-        from,
+        &mut out[page + part.from..page + part.to],
+        part.from,
         part.run,
         y,
     )
 }
 
-// The columns of one part, in the rows from y0 up to y1.
-fn level_columns(
-    shears: &Shears,
-    gray: &[u8],
-    out: &mut [u8],
-    from: usize,
-    part: Part,
-    y0: usize,
-    y1: usize,
-)
-    requires { Ready (shears_of shears.now) gray.now out.old × (Together shears.now.shear.now from part.to part.run × (y1 ≤ shears.now.sides.h)) }
-    ensures { LevelledArea (shears_of shears.now) gray.now (Columns (entry shears.now.shear_x.now) from part.to) y0 y1
+// The columns of one part, in a band.
+fn level_columns(shears: &Shears, gray: &[u8], out: &mut [u8], part: Part, rows: Rows)
+    requires { Ready (shears_of shears.now) gray.now out.old × (Together shears.now.shear.now part.from part.to part.run × (rows.to ≤ shears.now.sides.h)) }
+    ensures { LevelledArea (shears_of shears.now) gray.now (Columns (entry shears.now.shear_x.now) part.from part.to) rows.from rows.to
         out.old out.new }
 {
-    for y in y0..y1 {
-        level_part(shears, gray, out, from, part, y);
+    for y in rows.from..rows.to {
+        level_part(shears, gray, out, part, y);
     }
 }
 
@@ -115,28 +111,28 @@ fn pad_row(w: usize, out: &mut [u8], y: usize, from: usize, to: usize)
     out[row + to..row + w].fill(255)
 }
 
-// White paper left and right of the page, in the rows from y0 up to y1.
-fn pad_rows(shears: &Shears, out: &mut [u8], y0: usize, y1: usize)
-    requires { Frame shears.now.sides shears.now.shear_x.now × ((length out.old ≡ shears.now.sides.w * shears.now.sides.h) × ((y0 ≤ y1) × (y1 ≤ shears.now.sides.h))) }
-    ensures { Whitened shears.now.sides.w (InRows y0 y1 (Margins (shears_of shears.now))) out.old out.new }
+// White paper left and right of the page, in a band.
+fn pad_rows(shears: &Shears, out: &mut [u8], rows: Rows)
+    requires { Frame shears.now.sides shears.now.shear_x.now × ((length out.old ≡ shears.now.sides.w * shears.now.sides.h) × ((rows.from ≤ rows.to) × (rows.to ≤ shears.now.sides.h))) }
+    ensures { Whitened shears.now.sides.w (InRows rows.from rows.to (Margins (shears_of shears.now))) out.old out.new }
 {
     let sides = shears.sides;
-    for y in y0..y1 {
+    for y in rows.from..rows.to {
         let from = shears.across(y);
         pad_row(sides.w, out, y, from, from + sides.pw);
     }
 }
 
-// The rows from y0 up to y1. The walk is by hand, since a part begins where the last one ended, and only it knows where it ends.
-fn level_rows(shears: &Shears, gray: &[u8], out: &mut [u8], y0: usize, y1: usize)
-    requires { Ready (shears_of shears.now) gray.now out.old × ((y0 ≤ y1) × (y1 ≤ shears.now.sides.h)) }
-    ensures { LevelledArea (shears_of shears.now) gray.now All y0 y1 out.old out.new }
+// A band. The walk is by hand, since a part begins where the last one ended, and only it knows where it ends.
+fn level_rows(shears: &Shears, gray: &[u8], out: &mut [u8], rows: Rows)
+    requires { Ready (shears_of shears.now) gray.now out.old × ((rows.from ≤ rows.to) × (rows.to ≤ shears.now.sides.h)) }
+    ensures { LevelledArea (shears_of shears.now) gray.now All rows.from rows.to out.old out.new }
 {
-    pad_rows(shears, out, y0, y1);
+    pad_rows(shears, out, rows);
     let mut x = 0;
     while x < shears.shear.len() {
         let part = columns::part_at(shears.shear, x);
-        level_columns(shears, gray, out, x, part, y0, y1);
+        level_columns(shears, gray, out, part, rows);
         x = part.to;
     }
 }
@@ -150,8 +146,11 @@ pub fn level(shears: &Shears, gray: &[u8], out: &mut [u8])
     let h = shears.sides.h;
     let mut y = 0;
     while y < h {
-        let end = bands::band_end(y, h, 16);
-        level_rows(shears, gray, out, y, end);
-        y = end;
+        let rows = Rows {
+            from: y,
+            to: bands::band_end(y, h, 16),
+        };
+        level_rows(shears, gray, out, rows);
+        y = rows.to;
     }
 }

@@ -70,6 +70,7 @@ fn gather_all(
     ensures { Gathered n parents.now members.old ends.old members.new ends.new result }
 {
     let mut at = 0;
+    // The number steps by hand, since only roots count.
     let mut count = 0;
     for root in 0..n {
         if parents[root] as usize == root {
@@ -102,8 +103,8 @@ pub fn members_of<'a>(members: &'a [u32], ends: &[u32], count: usize, set: usize
     &members[start..end]
 }
 
-// Where a set begins.
-fn start_of(ends: &[u32], set: usize) -> usize
+// Where a set begins among the members.
+pub fn start_of(ends: &[u32], set: usize) -> usize
     requires { set < length ends.now }
     ensures { result ≡ start_of ends.now set }
 {

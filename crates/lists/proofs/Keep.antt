@@ -148,3 +148,7 @@ pub by_place : {A : Type 0} (xs : List A) (d : A) → map (λ k. get_or xs k d) 
 by_place xs d =
     ext_get_or d (map (λ k. get_or xs k d) (below (length xs))) xs (length_values (λ k. get_or xs k d) (length xs))
     (λ i h. get_d_values (λ k. get_or xs k d) (length xs) i d (rw (length_values (λ k. get_or xs k d) (length xs)) at h))
+
+-- what stands at each entry of a list
+pub at_entries : {A : Type 0} (f : ℕ → A) (xs : List ℕ) → map (λ k. f (get_or xs k 0)) (below (length xs)) ≡ map f xs
+at_entries f xs = sym (map_map f (λ k. get_or xs k 0) (below (length xs))) ∙ ap (map f) (by_place xs 0)

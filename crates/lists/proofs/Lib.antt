@@ -4,3 +4,6 @@ pub mod Keep
 pub mod Every
 pub mod Sizes
 pub mod Gathered
+pub mod Stores
+pub mod Putting
+pub mod Runs

@@ -8,7 +8,8 @@ ghost use Rattle.meeting.specs.Steps.{Given};
 
 use std::marker::Model;
 
-// The span along the ruling, and twice its centre across, so that it stays whole.
+// The span along the ruling, and twice its centre across, so that it stays whole. `horizontal` is a bool, as the Rust has it: made of C's number once,
+// and compared.
 #[derive(Clone, Copy)]
 pub struct Segment {
     pub horizontal: bool,
@@ -40,20 +41,20 @@ fn segment_of(r: rects::Rect, direction: u32) -> Segment
 
 // Does a doubled place lie within twice the span, widened by the limit? A horizontal and a vertical touch, the Rust's `meet`, where each holds the other's
 // doubled centre.
-pub fn span_holds(a: Segment, c: u32, join: u64) -> bool
-    requires { join < 2 ^ 32 }
+pub fn span_holds(a: Segment, c: u32, join: u32) -> bool
     ensures { result ≡ span_holds join a c }
 {
     let c = u64::from(c);
+    let join = u64::from(join);
     (2 * u64::from(a.start) <= c + 2 * join) & (c <= 2 * (u64::from(a.end) + join))
 }
 
 // Does ruling b, of the other direction, join the end of ruling a?
-fn joins_end(end: u32, a: Segment, b: Segment, join: u64) -> bool
-    requires { (join < 2 ^ 32) × (opposite a b ≡ true) }
+fn joins_end(end: u32, a: Segment, b: Segment, join: u32) -> bool
+    requires { opposite a b ≡ true }
     ensures { result ≡ joins_end join end a b }
 {
-    let near = (2 * u64::from(end)).abs_diff(u64::from(b.centre2)) <= 2 * join + 2;
+    let near = (2 * u64::from(end)).abs_diff(u64::from(b.centre2)) <= 2 * u64::from(join) + 2;
     near & span_holds(b, a.centre2, join)
 }
 
@@ -125,8 +126,8 @@ impl Rulings<'_> {
     }
 
     // Does the ruling at index j join the end of ruling a? Its direction is asked before its rectangle is read.
-    pub fn joined_by(&self, end: u32, a: Segment, j: usize, join: u64) -> bool
-        requires { (join < 2 ^ 32) × (j < length self.now.chosen) }
+    pub fn joined_by(&self, end: u32, a: Segment, j: usize, join: u32) -> bool
+        requires { j < length self.now.chosen }
         ensures { result ≡ joins_end join end a (ruling self.now j) }
     {
         if (self.direction(j) == 0) == a.horizontal {

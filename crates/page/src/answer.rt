@@ -1,7 +1,6 @@
 // What `detect` returns.
 ghost use Rattle.std.specs.Prelude.{◌≡◌, cond};
-ghost use Rattle.questions.specs.Missed.{number_of};
-ghost use Rattle.page.specs.Answer.{no_counts, answer_of, accepted, refusal};
+ghost use Rattle.page.specs.Answer.{answer_of, accepted, refusal};
 
 use crate::counts::Counts;
 use questions::Missed;
@@ -24,23 +23,6 @@ pub struct Answer {
     pub box_sets: usize,
 }
 
-// No count at all.
-fn nothing() -> Counts
-    ensures { result ≡ no_counts }
-{
-    Counts {
-        rulings: 0,
-        printed: 0,
-        faint: 0,
-        tables: 0,
-        boxes: 0,
-        grids: 0,
-        printed_sets: 0,
-        free: 0,
-        box_sets: 0,
-    }
-}
-
 fn counted(number: u32, n: Counts, findings: usize) -> Answer
     ensures { result ≡ answer_of number n findings }
 {
@@ -59,19 +41,20 @@ fn counted(number: u32, n: Counts, findings: usize) -> Answer
     }
 }
 
-pub fn refused(question: Missed) -> Answer
-    ensures { result ≡ refusal (number_of question) }
+// A number: what is refused has one, whoever asked.
+pub fn refused(number: u32) -> Answer
+    ensures { result ≡ refusal number }
 {
-    counted(question.number(), nothing(), 0)
+    counted(number, Counts::default(), 0)
 }
 
-// Question 15: is every evidence number finite?
+// Question 15: is every evidence number finite? A bool: the counts are known either way.
 pub fn answered(n: Counts, findings: usize, finite: bool) -> Answer
     ensures { result ≡ cond finite (accepted n findings) (refusal 15) }
 {
     if finite {
         counted(0, n, findings)
     } else {
-        refused(Missed::Evidence)
+        refused(Missed::Evidence.number())
     }
 }

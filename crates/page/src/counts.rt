@@ -2,7 +2,7 @@
 
 // Rulings, printed and faint ones; tables, boxes, grids; sets of printed rulings, entries of the free list, sets of boxes. Of pieces there are
 // as many sets as rulings.
-#[derive(Clone, Copy)]
+#[derive(Clone, Copy, Default)]
 pub struct Counts {
     pub rulings: usize,
     pub printed: usize,

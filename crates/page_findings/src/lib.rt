@@ -15,15 +15,17 @@ use finding_lists::lent::LentFindings;
 use findings::sources::{RulingLists, Scan, TableLists};
 use grid_findings::sources::BoxLists;
 use layout::tables::Shears;
+use listings::listed::Sets;
 use page::counts::Counts;
 use page::given::Page;
 use page::lent::{LentMarks, LentRules};
 use sources::Sources;
 
-// How many findings there are, and whether every evidence number is finite.
+// How many findings there are, since the lists that hold them are lent and may be longer, and whether every evidence number is finite.
 #[derive(Clone, Copy)]
 pub struct Found {
     pub count: usize,
+    // A bool: the count is promised either way.
     pub finite: bool,
 }
 
@@ -138,7 +140,7 @@ fn find_from(
     }
 }
 
-// From the front parts of the lists that hold what was found.
+// From the front parts of the lists that hold what was found. One by one, since a struct of lent lists is made from parameters alone.
 fn find_of<'x>(
     page: &'x Page,
     n: Counts,
@@ -251,9 +253,11 @@ fn find_of<'x>(
             rects: &boxes[..4 * n.boxes],
             marks: &marks[..n.boxes],
             coverages: &coverages[..n.boxes],
-            members,
-            ends,
-            count: n.box_sets,
+            sets: Sets {
+                members,
+                ends,
+                count: n.box_sets,
+            },
             grids: &numbers[..n.grids],
         },
     };

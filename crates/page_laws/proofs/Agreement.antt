@@ -9,6 +9,7 @@ use Rattle.lists.specs.Lists.{concat, written}
 use Rattle.sets.specs.Listing.{ends_from}
 use Rattle.level_gray.specs.Call.{LevelGray}
 use Rattle.segments.specs.declared.segments.Answer as RulingsAnswer
+use Rattle.ruling_questions.specs.Lent as RulingLists
 use Rattle.segments.specs.Call as Segments
 use Rattle.tables.specs.declared.Answer as TablesAnswer
 use Rattle.tables.specs.Call as Tables
@@ -41,7 +42,7 @@ module _ {g : Page} {l l' : Lent} {a : Answer} (D : Detect g l l' a) (z : a.numb
   pub same_raster : {out out' : List ℕ} {q : ℕ} → LevelGray g.sides g.gray g.shear g.shear_x out out' q → q ≡ 0 → out' ≡ l'.rules.levelled
   same_raster L y = L.answers y ∙ sym (D.raster (inl z)).0
 
-  pub same_rulings : {s s' : Segments.Lent} {r : RulingsAnswer.Answer} → Segments.Segments (for_segments g) s s' r → r.number ≡ 0 → SameRulings g l' s'
+  pub same_rulings : {s s' : RulingLists.Lent} {r : RulingsAnswer.Answer} → Segments.Segments (for_segments g) s s' r → r.number ≡ 0 → SameRulings g l' s'
   same_rulings {s} S y =
       let x = (D.answers z).rules in
       let w = S.answers y in

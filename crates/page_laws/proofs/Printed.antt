@@ -19,7 +19,7 @@ use Rattle.shapes.specs.declared.limits.Limits.{Limits}
 use Rattle.shapes.specs.Shapes.{is_table, rows_of, columns_of}
 use Rattle.table_lists.specs.Answers.{table_numbers, free_numbers, places_of, bounds_of}
 use Rattle.tables.specs.Call as Tables
-use Rattle.ruled_laws.proofs.Strung.{strung_rects, strung_long, strung_at}
+use Rattle.rects.proofs.Strung.{strung_rects, strung_long, strung_at}
 use Rattle.page_laws.proofs.Local.{sets_same, members_low, lines_same, table_same, share_same}
 
 module _ (rects directions places : List ℕ) (lim : Limits) where

@@ -3,6 +3,7 @@ use Rattle.std.specs.Prelude.{◌≡◌, List, map, length, get_or, take}
 use Rattle.lists.specs.Lists.{concat}
 use Rattle.sets.specs.Listing.{ends_from}
 use Rattle.rects.specs.Rects.{rect_at, numbers_of}
+use Rattle.ruling_questions.specs.Lent as RulingLists
 use Rattle.segments.specs.Call as Segments
 use Rattle.tables.specs.Call as Tables
 use Rattle.boxes.specs.Call as Boxes
@@ -39,7 +40,7 @@ pub record Both {A : Type 0} (xs l m : List A) : Type 0 where
   pub second : take (length xs) m ≡ xs
 
 -- What `segments` left in s, and `detect` in l.
-pub record SameRulings (g : Page) (l : Lent) (s : Segments.Lent) : Type 0 where
+pub record SameRulings (g : Page) (l : Lent) (s : RulingLists.Lent) : Type 0 where
   pub rects : Both (Page.rects g) l.rules.rects s.rects
   pub directions : Both (Page.directions g) l.rules.directions s.directions
   pub contrasts : Both (Page.contrasts g) l.rules.contrasts s.contrasts

@@ -31,7 +31,7 @@ fn join_pairs(pairs: &[u32], n: usize, parents: &mut [u32])
 }
 
 // The closed sets of the indexes below n, two of which touch when they stand as a pair of the list. Refused lists are left as
-// they were.
+// they were, by the frame of `gaps::gap_sets`, where its reason stands.
 pub fn pair_sets(
     n: usize,
     pairs: &[u32],

@@ -5,9 +5,8 @@ use mathlib.Core.List.{List}
 use Prim.Native.Nat.{ℕ, zero, suc, ◌+◌, ◌-◌, ◌/◌, ◌≤◌, ◌<◌}
 use native.Mathlib.Nat.{sub-add_cancel}
 use native.Mathlib.Omega.{arith}
-use lib.Dec.{leb, eqb}
+use lib.Dec.{leb}
 use lib.ListN.{length, get_or}
-use Rattle.lists.proofs.Sizes.{keep_size_le}
 use Rattle.paper.specs.Steps.{many, Tallied}
 use Rattle.paper.specs.Median.{median}
 use Rattle.paper.proofs.Many.{at_least, at_least_zero}

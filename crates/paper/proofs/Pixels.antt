@@ -7,9 +7,9 @@ use native.Mathlib.Nat.{suc-mul, mul-one, mul_comm, zero-mul, mul-le-mul_right}
 use native.Mathlib.Omega.{arith}
 use lib.Dec.{eqb}
 use lib.ListN.{length, get_or, take, drop, length-append, length-map}
-use Rattle.std.proofs.lemmas.List.{get_or-take, get_or-drop, length-take, length-drop}
+use Rattle.std.proofs.lemmas.List.{ext_get_or, get_or-take, get_or-drop, length-take, length-drop}
 use Rattle.lists.specs.Lists.{below, concat}
-use Rattle.lists.proofs.Keep.{map_append, map_map, map_same, concat_append, values_more, length_values}
+use Rattle.lists.proofs.Keep.{map_append, map_map, map_same, concat_append, values_more, length_values, get_d_values}
 use Rattle.lists.proofs.Sizes.{keep_size_le}
 use Rattle.paper.specs.Pixels.{pixel, run, pixels_in}
 use Rattle.paper.specs.Steps.{many, line, RoomFor, Counted}
@@ -26,11 +26,13 @@ row_inside w h x y n X Y =
     omega (arith, suc-mul y w, mul_comm h w)
 
 -- n numbers from a place of the raster on, as a slice
-pub part_length : (raster : List ℕ) (start n : ℕ) → start + n ≤ length raster → length (take (start + n - start) (drop start raster)) ≡ n
-part_length raster start n h = omega (arith, length-take (start + n - start) (drop start raster), length-drop start raster)
-
-pub part_pixel : (raster : List ℕ) (start n i : ℕ) → i < n → get_or (take (start + n - start) (drop start raster)) i 0 ≡ get_or raster (start + i) 0
-part_pixel raster start n i l = get_or-take (start + n - start) (drop start raster) i 0 (omega arith) ∙ get_or-drop start raster i 0
+pub part_line : (raster : List ℕ) (start n : ℕ) → start + n ≤ length raster → take (start + n - start) (drop start raster) ≡ line raster start n 1
+part_line raster start n h =
+    let long : length (take (start + n - start) (drop start raster)) ≡ n = omega (arith, length-take (start + n - start) (drop start raster), length-drop start raster) in
+    ext_get_or 0 (take (start + n - start) (drop start raster)) (line raster start n 1) (omega (arith, long, length_values (λ k. get_or raster (start + k * 1) 0) n))
+    (λ i l.
+    get_or-take (start + n - start) (drop start raster) i 0 (omega arith) ∙ get_or-drop start raster i 0
+    ∙ sym (get_d_values (λ k. get_or raster (start + k * 1) 0) n i 0 (omega arith) ∙ ap (λ (k : ℕ). get_or raster (start + k) 0) (mul-one i)))
 
 -- ---- rows
 
@@ -74,10 +76,7 @@ pixels_number raster w columns (y ∷ rows) =
 pub run_length : (a n : ℕ) → length (run a n) ≡ n
 run_length a n = length_values (λ k. a + k) n
 
--- one more pixel of a row, and room to count it
-pub row_more : (raster : List ℕ) (start k : ℕ) → line raster start (k + 1) 1 ≡ line raster start k 1 ++ (get_or raster (start + k) 0 ∷ [])
-row_more raster start k = values_more (λ k. get_or raster (start + k * 1) 0) k ∙ rw (mul-one k)
-
-pub counted_fits : (raster : List ℕ) (start i n p : ℕ) (counts counts' : List ℕ) → i < n → p < 256 → RoomFor n counts → Counted (line raster start i 1) counts counts' → get_or counts' p 0 + 1 < 2 ^ 32
-counted_fits raster start i n p counts counts' l b room c =
-    omega (arith, room.each p b, c.grown p b, keep_size_le (eqb p) (line raster start i 1), length_values (λ k. get_or raster (start + k * 1) 0) i)
+-- room to count one more pixel of a row
+pub counted_fits : (row : List ℕ) (i p : ℕ) (counts counts' : List ℕ) → i < length row → p < 256 → RoomFor (length row) counts → Counted (take i row) counts counts' → get_or counts' p 0 + 1 < 2 ^ 32
+counted_fits row i p counts counts' l b room c =
+    omega (arith, room.each p b, c.grown p b, keep_size_le (eqb p) (take i row), length-take i row)

@@ -44,7 +44,7 @@ fn strips_of(size: usize, a: usize, b: usize) -> Strips
     }
 }
 
-// The two areas in which the samples lie. `horizontal` is what the ruling is, as `ruling_lists` has it.
+// The two areas in which the samples lie. `horizontal` says whether the ruling is. A bool, as the Rust has it: a test finds it (`pieces`).
 pub fn beside(w: usize, h: usize, r: Rect, horizontal: bool) -> Areas
     requires { (w ≤ 8192) × (h ≤ 8192) × Inside w h r }
     ensures { Sampled w h r horizontal result }

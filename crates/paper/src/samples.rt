@@ -1,18 +1,18 @@
 // The samples of the paper beside a ruling, as 256 counts.
-ghost use Rattle.std.specs.Prelude.{◌≡◌, ◌+◌, ◌*◌, ◌≤◌, length};
-ghost use Rattle.paper.specs.Steps.{OnPicture, RoomFor, Clear, Counted, Sample, line, AreaInside, pixels_of};
+ghost use Rattle.std.specs.Prelude.{◌≡◌, ◌*◌, length};
+ghost use Rattle.paper.specs.Steps.{OnPicture, RoomFor, Clear, Counted, Sample, AreaInside, pixels_of};
 ghost use Rattle.paper.specs.Pixels.{samples};
 
 use crate::Raster;
 use crate::areas::Area;
 use rects::Rect;
 
-// Counts n pixels from start on.
-fn count_row(pixels: &[u8], start: usize, n: usize, counts: &mut [u32])
-    requires { (start + n ≤ length pixels.now) × RoomFor n counts.old }
-    ensures { Counted (line pixels.now start n 1) counts.old counts.new }
+// Counts some pixels.
+fn count_row(row: &[u8], counts: &mut [u32])
+    requires { RoomFor (length row.now) counts.old }
+    ensures { Counted row.now counts.old counts.new }
 {
-    for p in &pixels[start..start + n] {
+    for p in row {
         counts[usize::from(*p)] += 1;
     }
 }
@@ -26,11 +26,12 @@ impl Raster<'_> {
         let pixels = self.pixels;
         let w = self.w;
         for k in 0..a.rows {
-            count_row(pixels, (a.y + k) * w + a.x, a.columns, counts);
+            let at = (a.y + k) * w + a.x;
+            count_row(&pixels[at..at + a.columns], counts);
         }
     }
 
-    // Counts the samples of a ruling into counts that are all 0, and says how many there are.
+    // Counts the samples of a ruling into counts that are all 0, and says how many there are. `horizontal` is a bool as in `beside`.
     pub fn sample(&self, r: Rect, horizontal: bool, counts: &mut [u32]) -> usize
         requires { OnPicture self.now r × Clear counts.old }
         ensures { Sample (samples self.now.pixels self.now.w self.now.h r horizontal) counts.new result }

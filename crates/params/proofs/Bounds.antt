@@ -13,7 +13,7 @@ use Rattle.math.proofs.Bound.{AtMost}
 use Rattle.math.proofs.Limit.{size_at_most, between_at_most, from_zero, above_zero}
 use Rattle.params.specs.Constants.{float_one, largest_xheight}
 use Rattle.params.specs.Scan.{xheight_in_range}
-use Rattle.params.specs.Settings.{bounded, not_negative, from_zero_to_one, from_zero_to_million}
+use Rattle.params.specs.Settings.{bounded, not_negative, from_zero_to_one}
 use Rattle.params.proofs.Every.{both_true}
 
 million_value : HasValue million false 1_000_000 1

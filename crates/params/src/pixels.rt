@@ -9,6 +9,7 @@ pub fn limit(setting: f64, xheight: f64) -> u64
     requires { UpTo (2 * 1000000 * 4096) (rounded_product setting xheight) }
     ensures { result ≡ limit_of setting xheight }
 {
+    // By `as`, since there is no `From` from i64 to u64; the product is not below 0.
     rounding::rounded_product(setting, xheight) as u64
 }
 

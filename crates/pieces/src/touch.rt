@@ -1,6 +1,6 @@
 // Which pieces touch, and the joining of all that do: pieces are swept in the order of their starts, horizontal ones before vertical ones, so
 // that each is held only against those that begin before it is past.
-ghost use Rattle.std.specs.Prelude.{◌≡◌, ◌+◌, ◌*◌, ◌≤◌, ◌<◌, ◌^◌, length, get_or, drop};
+ghost use Rattle.std.specs.Prelude.{◌≡◌, ◌+◌, ◌*◌, ◌≤◌, ◌<◌, ◌^◌, length, drop};
 ghost use Rattle.rects.specs.Rects.{count, rect_at};
 ghost use Rattle.sets.specs.Closed.{Below};
 ghost use Rattle.sets.specs.Steps.{Joins, Joined, Parents, Room};
@@ -18,9 +18,9 @@ pub fn is_horizontal(r: Rect) -> bool
     r.y1 - r.y0 <= r.x1 - r.x0
 }
 
-// The doubled centre, the start and the end, taken as if the piece were horizontal or not. A bool and no enum of two
-// directions: it is what a ruling is, as the Rust has it, and what a test finds; an enum would be made from it and be
-// turned back for keys and lists.
+// The doubled centre, the start and the end, taken as if the piece were horizontal or not. A bool: it is what the test of a piece
+// finds and what keys and lists are made from, so that an enum would be made from it and turned back. (An axis that a caller names
+// by itself, as in `box_sets`, is an enum.)
 fn centre2(r: Rect, horizontal: bool) -> u64
     ensures { (result ≡ centre_in horizontal r) × (result < 2 ^ 33) }
 {
@@ -80,26 +80,13 @@ fn last_key(a: Rect, horizontal: bool, gap: u32) -> u64
     end(a, horizontal) + past + sorted::offset(horizontal)
 }
 
-// Writes the key of each piece.
-fn write_keys(pieces: &[u32], keys: &mut [u64])
-    requires { AllOrdered pieces.now × (count pieces.now ≤ length keys.old) }
-    ensures { Keyed pieces.now keys.new }
+// The key of piece i of a list. That pieces are ordered is a fact of the list, here as above: a struct of the one list would be made anew
+// at each call, and callers have the list alone.
+fn key_at(pieces: &[u32], i: usize) -> u64
+    requires { AllOrdered pieces.now × (i < count pieces.now) }
+    ensures { KeyOf (rect_at pieces.now i) result }
 {
-    let n = pieces.len() / 4;
-    for i in 0..n {
-        keys[i] = key_of(rects::rect_at(pieces, i));
-    }
-}
-
-// The keys of the pieces, and the pieces in the order of their keys.
-fn arrange(pieces: &[u32], order: &mut [u32], work: &mut [u32], keys: &mut [u64])
-    requires { AllOrdered pieces.now × SortRoom (count pieces.now) order.old work.old keys.old }
-    ensures { Sweep pieces.now order.new keys.new
-        × (drop (count pieces.now) order.new ≡ drop (count pieces.now) order.old) }
-{
-    let n = pieces.len() / 4;
-    write_keys(pieces, keys);
-    sorted::arrange(keys, n, order, work);
+    key_of(rects::rect_at(pieces, i))
 }
 
 // Joins two pieces if the centre of the second is near the given one. Two with one parent are in one set already.
@@ -116,11 +103,8 @@ fn join_near(
     ensures { Joined (count pieces.now) parents.old i j (within reach centre (centre_in horizontal (rect_at pieces.now j)))
         parents.new }
 {
-    if parents[i] != parents[j] {
-        if near(centre, centre2_at(pieces, j, horizontal), reach) {
-            sets::join(parents, pieces.len() / 4, i, j);
-        }
-    }
+    let touch = || near(centre, centre2_at(pieces, j, horizontal), reach);
+    sets::join_if(parents, pieces.len() / 4, i, j, touch);
 }
 
 // Joins the piece at place k of the order with every later one that it touches. From the first on that begins too late, none does.
@@ -170,7 +154,7 @@ pub fn join_all(
 {
     let n = pieces.len() / 4;
     sets::begin(parents, n);
-    arrange(pieces, order, work, keys);
+    sorted::arrange_by(|i| key_at(pieces, i), n, order, work, keys);
     for k in 0..n {
         join_row(pieces, across, gap, order, keys, parents, k);
     }

@@ -27,6 +27,7 @@ pub fn split(p: RulingsParams, contrasts: &[f64], printed: &mut [u32], faint: &m
     ensures { SplitByContrast p contrasts.now printed.old faint.old
         printed.new faint.new result.printed result.faint }
 {
+    // The numbers step by hand, since only what is listed counts.
     let mut dark = 0;
     let mut pale = 0;
     for (k, contrast) in contrasts.iter().enumerate() {

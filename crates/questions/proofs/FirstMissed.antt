@@ -20,11 +20,8 @@ abbrev pub numbered : List Question → Bool
 numbered [] = true
 numbered (q ∷ qs) = ltb 0 q.0 && numbered qs
 
-pub passed : (n : ℕ) {b : Bool} (qs : List Question) → b ≡ true → first_missed ((n, b) ∷ qs) ≡ first_missed qs
+passed : (n : ℕ) {b : Bool} (qs : List Question) → b ≡ true → first_missed ((n, b) ∷ qs) ≡ first_missed qs
 passed n qs h = simp h
-
-pub missed : (n : ℕ) {b : Bool} (qs : List Question) → b ≡ false → first_missed ((n, b) ∷ qs) ≡ n
-missed n qs h = simp h
 
 -- the parts of "numbered" at one question
 not_zero : (n : ℕ) (m : Bool) → T (ltb 0 n && m) → n ≡ 0 → ⊥
@@ -36,7 +33,7 @@ others zero m t = absurd t
 others (suc n) m t = subst (λ (b : Bool). T (b && m)) (lt-ltb 0 (suc n) (omega arith)) t
 
 -- nothing missed up to here: the rest decides
-pub up_to_here : (ps qs : List Question) → AllYes ps → first_missed (ps ++ qs) ≡ first_missed qs
+up_to_here : (ps qs : List Question) → AllYes ps → first_missed (ps ++ qs) ≡ first_missed qs
 up_to_here [] qs h = refl
 up_to_here (p ∷ ps) qs h = passed p.0 {b = p.1} (ps ++ qs) h.0 ∙ up_to_here ps qs h.1
 

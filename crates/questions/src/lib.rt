@@ -6,7 +6,7 @@ ghost use Rattle.questions.specs.Questions.{first_missed};
 ghost use Rattle.questions.specs.Missed.{number_of, number_in};
 
 // A question that is missed, by its number in document 01.
-#[derive(Clone, Copy, PartialEq, Eq)]
+#[derive(Clone, Copy)]
 pub enum Missed {
     Sides = 1,
     Scale = 2,
@@ -26,6 +26,7 @@ pub enum Missed {
 }
 
 impl Missed {
+    // A method and no `From`: the name says which number it is.
     pub fn number(self) -> u32
         ensures { result ≡ number_of self }
     {

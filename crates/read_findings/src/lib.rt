@@ -8,7 +8,7 @@ ghost use Rattle.read_findings.specs.Steps.{Standing};
 
 pub mod lent;
 
-use evidence::finding::{Evidence, Finding, Kind, Row};
+use evidence::finding::{Evidence, Finding, Kind, KindName, Row};
 use layout::rect::PageRect;
 use lent::FindingLists;
 
@@ -24,7 +24,7 @@ fn with_kind(row: Row, kind: Kind) -> Finding
     }
 }
 
-// A fold has one of two directions.
+// A fold has one of two directions, 0 or 1 as C's list holds it.
 fn fold_of(row: Row) -> Option<Finding>
     ensures { result ≡ fold_of row }
 {
@@ -48,13 +48,14 @@ fn fold_of(row: Row) -> Option<Finding>
     }
 }
 
+// The row's kind is a number that comes from C's lists, which may hold any.
 #[tactic(auto, unfolding(crate::specs::Read::finding_of))]
 pub fn finding_of(row: Row) -> Option<Finding>
     ensures { result ≡ finding_of row }
 {
     let second = row.second;
-    match row.kind {
-        16 => Some(with_kind(
+    match KindName::try_from(row.kind) {
+        Ok(KindName::Table) => Some(with_kind(
             row,
             Kind::Table {
                 rows: row.a,
@@ -63,7 +64,7 @@ pub fn finding_of(row: Row) -> Option<Finding>
                 second,
             },
         )),
-        17 => Some(with_kind(
+        Ok(KindName::FreeRules) => Some(with_kind(
             row,
             Kind::FreeRules {
                 horizontal: row.a,
@@ -72,7 +73,7 @@ pub fn finding_of(row: Row) -> Option<Finding>
                 second,
             },
         )),
-        18 => Some(with_kind(
+        Ok(KindName::Grid) => Some(with_kind(
             row,
             Kind::Grid {
                 boxes: row.a,
@@ -80,20 +81,13 @@ pub fn finding_of(row: Row) -> Option<Finding>
                 second,
             },
         )),
-        19 => fold_of(row),
-        _ => None,
+        Ok(KindName::Fold) => fold_of(row),
+        Err(_) => None,
     }
 }
 
-// Has each list of whole numbers an entry i?
-fn facts_long(kinds: &[u32], a: &[u32], b: &[u32], c: &[u32], i: usize) -> bool
-    ensures { result ≡ all_long 4 i (kinds.now ∷ a.now ∷ b.now ∷ c.now ∷ []) }
-{
-    (i < kinds.len()) & (i < a.len()) & (i < b.len()) & (i < c.len())
-}
-
-// Has each of four lists of floats one? The scores are asked for in two halves.
-fn four_long(p: &[f64], q: &[f64], r: &[f64], s: &[f64], i: usize) -> bool
+// Has each of four lists an entry i?
+fn four_long<T>(p: &[T], q: &[T], r: &[T], s: &[T], i: usize) -> bool
     ensures { result ≡ all_long 4 i (p.now ∷ q.now ∷ r.now ∷ s.now ∷ []) }
 {
     (i < p.len()) & (i < q.len()) & (i < r.len()) & (i < s.len())
@@ -121,6 +115,7 @@ fn row_at(lists: &FindingLists, i: usize) -> Row
     requires { Standing lists.now i }
     ensures { result ≡ row_at lists.now i }
 {
+    // Two types on purpose: the list holds rectangles of the page, and what reads a list gives those of the levelled picture.
     let r = rects::rect_at(lists.rects, i);
     let bbox = PageRect {
         x0: r.x0,
@@ -153,11 +148,13 @@ fn row_at(lists: &FindingLists, i: usize) -> Row
     }
 }
 
-// The finding at place i of `count`. Places past the count or past the end of a list have none.
+// The finding at place i of `count`. Places past the count or past the end of a list have none. The count stands beside the lists, since
+// these are lent and may be longer.
 pub fn finding_at(lists: &FindingLists, count: usize, i: usize) -> Option<Finding>
     ensures { result ≡ finding_at lists.now count i }
 {
-    let whole = (i < lists.rects.len() / 4) & facts_long(lists.kinds, lists.a, lists.b, lists.c, i);
+    let whole = (i < lists.rects.len() / 4) & four_long(lists.kinds, lists.a, lists.b, lists.c, i);
+    // The scores are asked for in two halves.
     let scored = four_long(
         lists.log_odds,
         lists.first_values,

@@ -27,4 +27,4 @@ reading_still {ss} {m} {e} en R = subst (ReadAs ss m e) en R
 pub near : (g : Page) (K : Known g) (l : RuleLists) (Q : RuleRoom g.sides.w g.sides.h (count g.pieces) l) {r d : List ℕ} {c c' : List Float} {pm pe : List ℕ} {n : ℕ} → Ruling g K l Q r d c pm pe n
     → c' ≡ written (Page.contrasts g) l.contrasts → AllNear (Page.raster g) g.sides.w g.sides.h g.pieces (Page.piece_sets g) c'
 near g K l Q R e k h =
-    rw (e, written_at (Page.contrasts g) l.contrasts k nan (rw (length-map (Page.piece_sets g) (λ s. (ruling_of (Page.raster g) g.sides.w g.sides.h g.pieces s).contrast)) h), get_d_of (λ s. (ruling_of (Page.raster g) g.sides.w g.sides.h g.pieces s).contrast) (Page.piece_sets g) k nan [] h) (R.made.described.near k h)
+    rw (e, written_at (Page.contrasts g) l.contrasts k nan (rw (length-map (Page.piece_sets g) (λ s. (ruling_of (Page.raster g) g.sides.w g.sides.h g.pieces s).contrast)) h), get_d_of (λ s. (ruling_of (Page.raster g) g.sides.w g.sides.h g.pieces s).contrast) (Page.piece_sets g) k nan [] h) (R.near k h)

@@ -1,18 +1,20 @@
 -- Levelling, rulings, printed and faint, tables: what each stage asks, and what it leaves of the page.
 use mathlib.Core.Path.{◌≡◌, sym, ap, ap₂, subst, transport, ◌∙◌}
-use mathlib.Core.List.{List}
-use Prim.Native.Nat.{ℕ, ◌+◌, ◌*◌, ◌≤◌}
+use mathlib.Core.List.{List, []}
+use Prim.Native.Nat.{ℕ, ◌+◌, ◌*◌, ◌≤◌, ◌<◌}
 use native.Mathlib.Omega.{arith}
 use lib.Ieee.{Float}
-use lib.ListN.{length, take, drop}
+use lib.ListN.{length, take, drop, get_or}
 use lib.Seq.{take-append_seam}
 use Rattle.lists.specs.Lists.{concat, written}
 use Rattle.lists.proofs.Written.{written_length}
-use Rattle.sets.specs.Listing.{ends_from}
+use Rattle.sets.specs.Listing.{ends_from, ReadAs}
 use Rattle.rects.specs.Rects.{count}
 use Rattle.levelling.specs.Steps as Levelling
 use Rattle.layout.proofs.Levelling.{levelled_is}
 use Rattle.params.specs.Steps.{SettingsPassed}
+use Rattle.ruling_questions.specs.Lent.{Lent}
+use Rattle.ruling_lists.specs.Steps.{NearOwn}
 use Rattle.segments.specs.Steps as Segments
 use Rattle.printed_rulings.specs.Steps.{SplitByContrast, RoomForPlaces}
 use Rattle.meeting.specs.Steps as Meeting
@@ -41,6 +43,22 @@ module _ (g : Page) (K : Known g) (l : RuleLists) (Q : RuleRoom g.sides.w g.side
   abbrev h : ℕ
   h = g.sides.h
 
+  -- what the rulings' stage is lent
+  abbrev lent : Lent
+  lent =
+      record {
+        rects = l.rects;
+        directions = l.directions;
+        contrasts = l.contrasts;
+        piece_members = l.piece_members;
+        piece_ends = l.piece_ends;
+        parents = l.parents;
+        listed = l.listed;
+        listed_ends = l.listed_ends;
+        work = l.order;
+        keys = l.keys;
+      }
+
   pub level_ready : Levelling.Ready (record { sides = g.sides; shear = g.shear; shear_x = g.shear_x }) g.gray l.levelled
   level_ready = record { sheared = K.sheared; grey_long = K.grey; out_long = Q.levelled }
 
@@ -49,16 +67,23 @@ module _ (g : Page) (K : Known g) (l : RuleLists) (Q : RuleRoom g.sides.w g.side
 
   pub rulings_ready : {lev : List ℕ} → lev ≡ Page.raster g
       → SettingsPassed g.settings g.xheight
-      × Segments.Ready lev w h g.pieces l.rects l.directions l.contrasts l.piece_members l.piece_ends l.parents l.listed l.listed_ends l.order l.keys
+      × Segments.Ready (record { pixels = lev; w = w; h = h }) g.pieces lent
   rulings_ready e = (
     K.settled,
     record {
       picture = record { full = ap length e ∙ raster_long; narrow = K.sides.w_most; low = K.sides.h_most; inside = K.pieces };
       few = K.few_pieces;
-      rulings = record { rects = Q.rects; directions = Q.directions; contrasts = Q.contrasts };
-      members = Q.piece_members;
-      ends = Q.piece_ends;
-      work = record { parents = Q.parents; listed = Q.listed; listed_ends = Q.listed_ends; work = Q.order; keys = Q.keys };
+      roomy =
+          record {
+            rulings = record { rects = Q.rects; directions = Q.directions; contrasts = Q.contrasts };
+            members = Q.piece_members;
+            ends = Q.piece_ends;
+            parents = Q.parents;
+            listed = Q.listed;
+            listed_ends = Q.listed_ends;
+            work = Q.order;
+            keys = Q.keys;
+          };
     },
   )
 
@@ -74,13 +99,24 @@ module _ (g : Page) (K : Known g) (l : RuleLists) (Q : RuleRoom g.sides.w g.side
     pub contrasts : c ≡ written (Page.contrasts g) l.contrasts
     pub members : pm ≡ written (concat (Page.piece_sets g)) l.piece_members
     pub ends : pe ≡ written (ends_from 0 (Page.piece_sets g)) l.piece_ends
-    pub made : Segments.Made (Page.raster g) w h g.pieces (Page.piece_sets g) l.rects l.directions l.contrasts l.piece_members l.piece_ends r d c pm pe n
+    pub near : (k : ℕ) → k < length (Page.piece_sets g) → NearOwn (record { pixels = Page.raster g; w = w; h = h }) g.pieces (get_or (Page.piece_sets g) k [])
+    pub read : ReadAs (Page.piece_sets g) pm pe n
 
-  pub ruling : {lev r d : List ℕ} {c : List Float} {pm pe : List ℕ} {n : ℕ} → lev ≡ Page.raster g
-      → Segments.Made lev w h g.pieces (Page.piece_sets g) l.rects l.directions l.contrasts l.piece_members l.piece_ends r d c pm pe n → Ruling r d c pm pe n
-  ruling {lev} {r} {d} {c} {pm} {pe} {n} e M₀ =
-      let M = transport (λ i. Segments.Made (e i) w h g.pieces (Page.piece_sets g) l.rects l.directions l.contrasts l.piece_members l.piece_ends r d c pm pe n) M₀ in
-      record { count = M.count; rects = M.described.rects; directions = M.described.directions; contrasts = M.described.contrasts; members = M.strung.members; ends = M.strung.ends; made = M }
+  pub ruling : {lev : List ℕ} {l' : Lent} {n : ℕ} → lev ≡ Page.raster g
+      → Segments.Made (record { pixels = lev; w = w; h = h }) g.pieces (Page.piece_sets g) lent l' n
+      → Ruling l'.rects l'.directions l'.contrasts l'.piece_members l'.piece_ends n
+  ruling {l' = l'} {n} e M₀ =
+      let M = subst (λ (lev : List ℕ). Segments.Made (record { pixels = lev; w = w; h = h }) g.pieces (Page.piece_sets g) lent l' n) e M₀ in
+      record {
+        count = M.count;
+        rects = M.described.rects;
+        directions = M.described.directions;
+        contrasts = M.described.contrasts;
+        members = M.strung.members;
+        ends = M.strung.ends;
+        near = M.described.near;
+        read = M.read;
+      }
 
   module _ {r d : List ℕ} {c : List Float} {pm pe : List ℕ} {n : ℕ} (R : Ruling r d c pm pe n) where
     n_few : n ≤ count g.pieces

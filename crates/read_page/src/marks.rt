@@ -2,13 +2,14 @@
 ghost use Rattle.std.specs.Prelude.{◌*◌, ◌≤◌, length, take};
 ghost use Rattle.params.specs.Steps.{SettingsPassed};
 ghost use Rattle.params.specs.Limits.{align_limit};
+ghost use Rattle.box_lists.specs.Steps.{Ready, Made};
 ghost use Rattle.box_widths.specs.Steps.{PassedBoxes};
 ghost use Rattle.grids.specs.Steps.{Filled, Roomy};
 ghost use Rattle.page.specs.Lent.{marks_of};
 ghost use Rattle.page.specs.Steps.{SameMarks};
 ghost use Rattle.read_page.specs.Steps.{MarksReady, MarksDone};
 
-use grids::lent::Lists;
+use glyph_tests::limits::Limits;
 use ink::Mask;
 use page::given::Page;
 use page::lent::LentMarks;
@@ -22,7 +23,31 @@ pub struct Counts {
     pub box_sets: usize,
 }
 
-// The grids among the first n boxes.
+// The boxes among the glyph boxes, and how many there are. The lists come one by one, here and below, since a struct of lent lists is made
+// from parameters alone.
+fn find_boxes(
+    mask: &Mask,
+    glyphs: &[u32],
+    l: Limits,
+    rects: &mut [u32],
+    marks: &mut [u32],
+    coverages: &mut [f64],
+) -> usize
+    requires { Ready mask.now.bytes mask.now.w glyphs.now l
+        (record { rects = rects.old; marks = marks.old; coverages = coverages.old }) }
+    ensures { Made mask.now.bytes mask.now.w glyphs.now l
+        (record { rects = rects.old; marks = marks.old; coverages = coverages.old })
+        (record { rects = rects.new; marks = marks.new; coverages = coverages.new }) result }
+{
+    let mut lists = box_lists::lent::Lists {
+        rects,
+        marks,
+        coverages,
+    };
+    box_lists::find(mask, glyphs, l, &mut lists)
+}
+
+// The grids among the first n boxes. n stands beside the list: of a front part that the caller hands the proof wouldn't know the content.
 fn find_grids(
     p: RulingsParams,
     xheight: f64,
@@ -60,7 +85,7 @@ fn find_grids(
         result.sets result.grids }
 {
     let limit = grids::inner::limit(p, xheight);
-    let mut lists = Lists {
+    let mut lists = grids::lent::Lists {
         members,
         ends,
         reading,
@@ -82,7 +107,7 @@ pub fn read(page: &Page, l: &mut LentMarks) -> Counts
         bytes: page.ink,
         w: page.sides.w,
     };
-    let n = box_lists::find(&mask, page.glyphs, limits, l.boxes, l.marks, l.coverages);
+    let n = find_boxes(&mask, page.glyphs, limits, l.boxes, l.marks, l.coverages);
     let boxes = &mut *l.boxes;
     let found = find_grids(
         page.settings,

@@ -31,7 +31,7 @@ pub struct Counts {
     pub free: usize,
 }
 
-// The rulings and their sets of pieces.
+// The rulings and their sets of pieces. The lists come one by one, here and below, since a struct of lent lists is made from parameters alone.
 fn connect(
     page: &Page,
     levelled: &[u8],
@@ -47,11 +47,45 @@ fn connect(
     keys: &mut [u64],
 ) -> usize
     requires { SettingsPassed page.now.settings page.now.xheight
-        × Ready levelled.now page.now.sides.w page.now.sides.h page.now.pieces rects.old directions.old contrasts.old
-        members.old ends.old parents.old listed.old listed_ends.old order.old keys.old }
-    ensures { Made levelled.now page.now.sides.w page.now.sides.h page.now.pieces (sets_of page.now.xheight page.now.pieces page.now.settings)
-        rects.old directions.old contrasts.old members.old ends.old
-        rects.new directions.new contrasts.new members.new ends.new result }
+        × Ready (record { pixels = levelled.now; w = page.now.sides.w; h = page.now.sides.h }) page.now.pieces
+        (record {
+          rects = rects.old;
+          directions = directions.old;
+          contrasts = contrasts.old;
+          piece_members = members.old;
+          piece_ends = ends.old;
+          parents = parents.old;
+          listed = listed.old;
+          listed_ends = listed_ends.old;
+          work = order.old;
+          keys = keys.old;
+        }) }
+    ensures { Made (record { pixels = levelled.now; w = page.now.sides.w; h = page.now.sides.h }) page.now.pieces
+        (sets_of page.now.xheight page.now.pieces page.now.settings)
+        (record {
+          rects = rects.old;
+          directions = directions.old;
+          contrasts = contrasts.old;
+          piece_members = members.old;
+          piece_ends = ends.old;
+          parents = parents.old;
+          listed = listed.old;
+          listed_ends = listed_ends.old;
+          work = order.old;
+          keys = keys.old;
+        })
+        (record {
+          rects = rects.new;
+          directions = directions.new;
+          contrasts = contrasts.new;
+          piece_members = members.new;
+          piece_ends = ends.new;
+          parents = parents.new;
+          listed = listed.new;
+          listed_ends = listed_ends.new;
+          work = order.new;
+          keys = keys.new;
+        }) result }
 {
     let across = params::pixels::limit_u32(page.settings.merge_across_xh, page.xheight);
     let gap = params::pixels::limit_u32(page.settings.merge_gap_xh, page.xheight);
@@ -60,25 +94,23 @@ fn connect(
         w: page.sides.w,
         h: page.sides.h,
     };
-    segments::segments::rulings(
-        &raster,
-        page.pieces,
-        across,
-        gap,
+    let mut lists = ruling_questions::lent::Lists {
         rects,
         directions,
         contrasts,
-        members,
-        ends,
+        piece_members: members,
+        piece_ends: ends,
         parents,
         listed,
         listed_ends,
-        order,
+        work: order,
         keys,
-    )
+    };
+    segments::segments::rulings(&raster, page.pieces, across, gap, &mut lists)
 }
 
-// The printed and the faint of the first n rulings.
+// The printed and the faint of the first n rulings. n stands beside the list, here and below: of a front part that the caller hands the proof
+// wouldn't know the content.
 fn part(
     p: RulingsParams,
     n: usize,

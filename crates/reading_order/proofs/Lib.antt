@@ -1,3 +1,2 @@
 -- Why the reading order is right: laws that belong to no one function.
-pub mod Writing
 pub mod ReadingOrder

@@ -1,7 +1,7 @@
 -- The reading order: the key orders as y0, then x0, and equal keys stand by their place in the set, which ascends.
 use mathlib.Core.Path.{◌≡◌, sym, ap, ◌∙◌, subst}
 use mathlib.Core.Logic.{◌⊎◌, inl, inr}
-use mathlib.Core.List.{List, map}
+use mathlib.Core.List.{List, ◌++◌, map}
 use Prim.Native.Nat.{ℕ, ◌<◌}
 use native.Mathlib.Decide.{dec_lt}
 use native.Mathlib.Omega.{arith}
@@ -106,8 +106,10 @@ module _ (rects set : List ℕ) where
   keys_front keys e = ap (take (length set)) e ∙ take_at (reading_keys rects set) (drop (length (reading_keys rects set)) keys) (length set) keys_long
 
   pub sorted_places : (keys order : List ℕ) {keys' order' : List ℕ} → keys' ≡ written (reading_keys rects set) keys
-      → order' ≡ written (sorted_indexes (take (length set) keys')) order → order' ≡ written places order
-  sorted_places keys order e f = f ∙ ap (λ (ks : List ℕ). written (sorted_indexes ks) order) (keys_front keys e)
+      → order' ≡ sorted_indexes (take (length set) keys') ++ drop (length (take (length set) keys')) order → order' ≡ written places order
+  sorted_places keys order e f =
+      f ∙ ap (λ (ks : List ℕ). sorted_indexes ks ++ drop (length ks) order) (keys_front keys e)
+      ∙ ap (λ (n : ℕ). places ++ drop n order) (keys_long ∙ sym places_long)
 
   pub order_within : (order : List ℕ) {order' : List ℕ} → order' ≡ written places order → (k : ℕ) → k < length set → get_or order' k 0 < length set
   order_within order e k h = rw (e, written_at places order k 0 (rw places_long h)) (place_within k h)

@@ -1,33 +1,30 @@
 // The reading order of each set.
-ghost use Rattle.std.specs.Prelude.{◌≡◌, map, ℕ, ◌+◌, ◌<◌, ◌≤◌, ◌^◌, length, take, get_or};
+ghost use Rattle.std.specs.Prelude.{◌≡◌, map, ℕ, ◌+◌, ◌<◌, ◌≤◌, length, take, get_or};
 ghost use Rattle.std.proofs.lemmas.List.Edits.{sets};
 ghost use Rattle.lists.specs.Lists.{below, concat, written};
-ghost use Rattle.order.specs.Order.{sorted_indexes};
-ghost use Rattle.rects.specs.Rects.{count};
+ghost use Rattle.rects.specs.Rects.{count, rect_at};
 ghost use Rattle.listings.specs.Listed.{set_of};
-ghost use Rattle.reading_order.specs.Reading.{reading_keys, reading_order};
+ghost use Rattle.reading_order.specs.Reading.{reading_key, reading_keys, reading_order};
 ghost use Rattle.box_widths.specs.Steps.{PassedBoxes};
 ghost use Rattle.reading_order.specs.Steps.{Indexes, SetsIn, WorkRoom};
 
 use listings::listed::Sets;
 
-// The keys of a set's boxes: y0, then x0.
+// The key of the box at place k of a set: y0, then x0.
+fn key_at(rects: &[u32], set: &[u32], k: usize) -> u64
+    requires { Indexes (count rects.now) set.now × (k < length set.now) }
+    ensures { result ≡ reading_key (rect_at rects.now (get_or set.now k 0)) }
+{
+    let r = rects::rect_at(rects, set[k] as usize);
+    u64::from(r.y0) * 8192 + u64::from(r.x0)
+}
+
+// The keys of a set's boxes.
 fn set_keys(rects: &[u32], set: &[u32], keys: &mut [u64])
     requires { PassedBoxes rects.now × Indexes (count rects.now) set.now × (length set.now ≤ length keys.old) }
     ensures { keys.new ≡ written (reading_keys rects.now set.now) keys.old }
 {
-    for (k, i) in set.iter().enumerate() {
-        let r = rects::rect_at(rects, *i as usize);
-        keys[k] = u64::from(r.y0) * 8192 + u64::from(r.x0);
-    }
-}
-
-// The places of the keys in order.
-fn sort_keys(keys: &[u64], n: usize, order: &mut [u32], work: &mut [u32])
-    requires { (n < 2 ^ 32) × WorkRoom n (length order.old) (length work.old) (length keys.now) }
-    ensures { order.new ≡ written (sorted_indexes (take n keys.now)) order.old }
-{
-    sort::sort(&keys[0..n], order, work);
+    lists::put_all(|k| key_at(rects, set, k), set.len(), 0, keys);
 }
 
 // Writes the members of a set in the order of the given places, from place `at` on.
@@ -57,7 +54,7 @@ fn read_set(
     ensures { reading.new ≡ sets reading.old at (reading_order rects.now set.now) }
 {
     set_keys(rects, set, keys);
-    sort_keys(keys, set.len(), order, work);
+    sort::sort(&keys[..set.len()], order, work);
     put(set, order, reading, at);
 }
 

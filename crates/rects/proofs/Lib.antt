@@ -1,4 +1,4 @@
 -- The laws of rectangles that the crates above cite.
 pub mod Around
-pub mod Stores
 pub mod Questions
+pub mod Strung

@@ -1,7 +1,7 @@
 // Rectangles by value and as number lists, and what questions 5 and 6 ask of such lists.
 #![tactic(auto)]
 
-ghost use Rattle.std.specs.Prelude.{◌≡◌, length};
+ghost use Rattle.std.specs.Prelude.{◌≡◌, ◌-◌, min, length};
 ghost use Prim.Native.Nat.{◌+◌, ◌*◌, ◌^◌, ◌<◌, ◌≤◌};
 ghost use Rattle.std.proofs.lemmas.List.Edits.{sets};
 ghost use Rattle.rects.specs.Rects.{width_of, height_of, rect_at, numbers_of, inside, count_fits, all_inside};
@@ -107,14 +107,27 @@ pub fn count_fits(rects: &[u32], most: usize) -> bool
     (rects.len() % 4 == 0) & (rects.len() / 4 <= most)
 }
 
-// Question 6. A test at a time, since a branch that is never taken costs less than a truth value kept.
+// The last of n places, as far as a number of a rectangle goes.
+fn last(n: usize) -> u32
+    ensures { result ≡ min (n - 1) 4294967295 }
+{
+    n.saturating_sub(1).min(4_294_967_295) as u32
+}
+
+// Question 6. Every rectangle is read, and its numbers are compared as they are: with no branch and no wider number in the loop
+// several rectangles are tested at a time.
 pub fn all_inside(rects: &[u32], w: usize, h: usize) -> bool
     ensures { result ≡ all_inside w h rects.now }
 {
+    let right = last(w);
+    let bottom = last(h);
+    let mut inside = true;
     for k in 0..rects.len() / 4 {
-        if !rect_at(rects, k).is_inside(w, h) {
-            return false;
-        }
+        let r = rect_at(rects, k);
+        inside &= (r.x0 <= r.x1)
+            & (r.y0 <= r.y1)
+            & ((0 < w) & (r.x1 <= right))
+            & ((0 < h) & (r.y1 <= bottom));
     }
-    true
+    inside
 }

@@ -78,7 +78,7 @@ fn write_raster<F: FnOnce(&mut [u8]) -> Result<(), Missed>>(
     let n = (room as usize).min(256);
     let number = questions::number(level(&mut out[..n]));
     written::word(rt, u64::from(number))?;
-    written::bytes(rt, &out, n)
+    written::wholes(rt, &out, n)
 }
 
 // Writes the number, and the place or 0 and 0.

@@ -24,6 +24,7 @@ mod rulings;
 mod settings;
 mod squares;
 
+// `replay_pages` begins so too: of two programs each has a `main` of its own.
 fn main(rt: HostRuntime) -> io::Result<()> {
     let mut text = [0u8; 262144];
     let n = input::read_full(&mut rt.stdin(), &mut text)?;

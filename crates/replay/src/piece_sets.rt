@@ -4,7 +4,7 @@ use std::io;
 use stored::written;
 
 // Writes the number and the count of rulings, then their rectangles, directions, contrasts and ends,
-// and the n members.
+// and the n members. Counts stand beside the arrays, here and in `rulings`, which are of one size.
 fn write_rulings(
     rt: &impl Print,
     number: u32,

@@ -17,7 +17,7 @@ pub fn answer(rt: &impl Print, given: &Page, lent: u64) -> io::Result<()> {
         0
     };
     write_counts(rt, found.answer)?;
-    written::bytes(rt, &found.levelled, room)?;
+    written::wholes(rt, &found.levelled, room)?;
     write_rulings(rt, &found, n)?;
     write_printed(rt, &found)?;
     write_tables(rt, &found)?;

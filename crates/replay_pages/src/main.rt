@@ -16,6 +16,7 @@ mod answers;
 mod finding_rows;
 mod pages;
 
+// As in `replay`: of two programs each has a `main` of its own.
 fn main(rt: HostRuntime) -> io::Result<()> {
     let mut text = [0u8; 262144];
     let n = input::read_full(&mut rt.stdin(), &mut text)?;

@@ -5,7 +5,8 @@ ghost use Rattle.std.specs.Prelude.{◌≡◌};
 ghost use Rattle.std.specs.Float.Ieee.{to_signed};
 ghost use Rattle.math.specs.Rounding.{round_away, rounded_product, round_output};
 
-// x to the nearest whole number, halves away from zero; a zero keeps its sign.
+// x to the nearest whole number, halves away from zero; a zero keeps its sign. It stands for the definition that contracts name, as
+// `to_i64` does.
 pub fn round(x: f64) -> f64
     ensures { result ≡ round_away x }
 {

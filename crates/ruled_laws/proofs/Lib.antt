@@ -1,6 +1,5 @@
 -- The laws of the rulings and tables of a page.
 pub mod Strung
-pub mod Total
 pub mod Places
 pub mod Tabled
 pub mod Ruled

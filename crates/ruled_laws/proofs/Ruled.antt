@@ -28,7 +28,7 @@ use Rattle.findings.specs.Steps.{NumbersGiven, AllGiven, TablesGiven}
 use Rattle.evidence.specs.Kinds.{is_fold}
 use Rattle.page.specs.Page as Page
 use Rattle.page.specs.Page.{Page}
-use Rattle.ruled_laws.proofs.Strung.{strung_long, strung_inside}
+use Rattle.rects.proofs.Strung.{strung_long, strung_inside}
 use Rattle.ruled_laws.proofs.Places.{picked_given, picked_chosen}
 use Rattle.ruled_laws.proofs.Tabled as Tabled
 
@@ -131,7 +131,7 @@ module _ (g : Page) (few : count g.pieces ≤ 4096) (narrow : g.sides.w ≤ 8192
   free_given = Tabled.free_known (Page.rects g) (Page.directions g) (Page.printed g) (Page.table_limits g) chosen_given.few
 
   -- Every fold is a faint ruling.
-  pub folds_few : length (folds g.settings g.dpi (Page.rects g) (Page.directions g) (Page.faint g)) ≤ length (Page.faint g)
+  folds_few : length (folds g.settings g.dpi (Page.rects g) (Page.directions g) (Page.faint g)) ≤ length (Page.faint g)
   folds_few = keep_size_le (λ k. is_fold g.settings (fold_inches g.dpi (Page.rects g) (Page.directions g) k)) (Page.faint g)
 
   -- Tables, the free rules and folds make no more findings than there are rulings.

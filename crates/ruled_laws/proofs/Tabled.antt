@@ -1,17 +1,17 @@
 -- The tables and the free rulings among some chosen rulings: how many there are, and what is given of them.
 use mathlib.Core.Path.{◌≡◌, sym, ap, subst, ◌∙◌}
 use mathlib.Core.Bool.{Bool, true, false, not}
-use mathlib.Core.List.{List, [], ◌∷◌, ◌++◌, map}
-use Prim.Native.Nat.{ℕ, suc, ◌+◌, ◌-◌, ◌*◌, ◌/◌, ◌≤◌, ◌<◌}
-use native.Mathlib.Nat.{lt-suc_self}
+use mathlib.Core.List.{List, [], map}
+use Prim.Native.Nat.{ℕ, ◌+◌, ◌-◌, ◌*◌, ◌/◌, ◌≤◌, ◌<◌}
 use native.Mathlib.Omega.{arith}
-use lib.ListN.{length, get_or, length-map, length-append}
+use lib.ListN.{length, get_or, length-map}
 use Rattle.lists.specs.Lists.{In, below, keep, concat}
 use Rattle.lists.proofs.Keep.{length_below, in_below, below_in, kept_in, in_at, at_in, get_d_map, by_place}
 use Rattle.lists.proofs.Sizes.{keep_size_le}
+use Rattle.lists.proofs.Runs.{strung, strung_keep}
 use Rattle.sets.specs.Closed.{Below, Closed}
 use Rattle.sets.proofs.Ascending.{ascending_below, sublist}
-use Rattle.sets.proofs.Grown.{closed_sets_listed}
+use Rattle.sets.proofs.Grown.{closed_sets_listed, sets_total}
 use Rattle.lines.specs.Lines.{sorted_positions}
 use Rattle.lines.proofs.Sorted.{lines_few}
 use Rattle.rects.specs.Rects.{count, rect_at}
@@ -24,19 +24,11 @@ use Rattle.meeting.specs.Meeting.{touch, Touch}
 use Rattle.shapes.specs.declared.limits.Limits.{Limits}
 use Rattle.shapes.specs.Shapes.{in_direction, positions, members, lines_of, is_table, rows_of, columns_of}
 use Rattle.table_lists.specs.Answers.{table_numbers, free_numbers, places_of}
-use Rattle.table_lists.proofs.Strung.{strung, strung_one, strung_fits}
 use Rattle.tables.specs.Call.{all_sets, set_at, tables, free, bounds, rows, columns, rulings, shares}
 use Rattle.tables.proofs.Few.{tables_few}
 use Rattle.findings.specs.Steps.{NumbersGiven, TablesGiven}
-use Rattle.ruled_laws.proofs.Strung.{strung_long, strung_inside, strung_all}
-use Rattle.ruled_laws.proofs.Total.{sets_total}
-
--- Some sets strung together are no longer than all.
-strung_few : (f : ℕ → List ℕ) (q : ℕ → Bool) (n : ℕ) → length (strung f (keep q (below n))) ≤ length (strung f (below n))
-strung_few f q n =
-    let all : length (strung f (below n ++ (n ∷ []))) ≡ length (strung f (below n)) + length (f n) =
-    ap length (strung_one f (below n) n) ∙ length-append (strung f (below n)) (f n) in
-    omega (arith, strung_fits f q n (suc n) (lt-suc_self n))
+use Rattle.rects.proofs.Strung.{strung_long, strung_inside}
+use Rattle.ruled_laws.proofs.Strung.{strung_all}
 
 -- A set has no more lines than members.
 lines_short : (cluster : ℕ) (horizontal : Bool) (s : ℕ → Segment) (set : List ℕ) → lines_of cluster horizontal s set ≤ length set
@@ -103,7 +95,7 @@ module _ (rects directions chosen : List ℕ) (lim : Limits) where
   free_short =
       let ss = all_sets rects directions chosen lim in
       let all : length (strung set (below (length ss))) ≡ length (concat ss) = ap (λ (t : List (List ℕ)). length (concat t)) (by_place ss []) in
-      omega (arith, strung_few set (λ k. not (is_table lim s (set k))) (length ss), sets_total (length chosen) (touch lim.join s))
+      omega (arith, strung_keep set (λ k. not (is_table lim s (set k))) (below (length ss)), sets_total (length chosen) (touch lim.join s))
 
   -- A free ruling is one of the chosen.
   free_low : (i : ℕ) → In (free rects directions chosen lim) i → i < length chosen

@@ -1,7 +1,7 @@
 -- What the functions of `ruling_lists` ask and leave; none of it is needed to read the contract of `segments`.
 use Rattle.std.specs.Prelude.{◌≡◌, List, [], map, ℕ, ◌*◌, ◌^◌, ◌≤◌, ◌<◌, Float, length, get_or}
 use Rattle.lists.specs.Lists.{below, written, In, concat}
-use Rattle.sets.specs.Listing.{members_of, ends_from}
+use Rattle.sets.specs.Listing.{ends_from}
 use Rattle.order.specs.Order.{sorted_indexes}
 use Rattle.rects.specs.Rects.{count}
 use Rattle.rects.specs.Steps.{AllInside}
@@ -9,18 +9,18 @@ use Rattle.paper.specs.Pixels.{Raster}
 use Rattle.ruling_lists.specs.declared.ruling.Ruling.{Ruling}
 use Rattle.ruling_lists.specs.Rulings.{ruling_keys, ruling_of, Near, ruling_rects, directions_of, contrasts_of}
 
--- Each of the first n parts of a listing has a member, and its members are pieces.
-pub record Parts (pieces ms es : List ℕ) (n : ℕ) : Type 0 where
-  pub some : (k : ℕ) → k < n → 0 < length (members_of ms es n k)
-  pub known : (k i : ℕ) → k < n → In (members_of ms es n k) i → i < count pieces
+-- Each of the sets below n has a member, and its members are pieces.
+pub record Parts (pieces : List ℕ) (set : ℕ → List ℕ) (n : ℕ) : Type 0 where
+  pub some : (k : ℕ) → k < n → 0 < length (set k)
+  pub known : (k i : ℕ) → k < n → In (set k) i → i < count pieces
 
--- The first n parts of a listing.
-abbrev pub parts_of : List ℕ → List ℕ → ℕ → List (List ℕ)
-parts_of members ends n = map (members_of members ends n) (below n)
+-- The sets below n.
+abbrev pub parts_of : (ℕ → List ℕ) → ℕ → List (List ℕ)
+parts_of set n = map set (below n)
 
--- The parts of a listing in another order.
-abbrev pub in_order : List ℕ → List ℕ → ℕ → List ℕ → List (List ℕ)
-in_order members ends n order = map (λ k. members_of members ends n (get_or order k 0)) (below n)
+-- The sets that the first n entries of a list number.
+abbrev pub in_order : (ℕ → List ℕ) → ℕ → List ℕ → List (List ℕ)
+in_order set n order = map (λ k. set (get_or order k 0)) (below n)
 
 -- Some sets were strung together from the front of two lists.
 pub record Strung (ss : List (List ℕ)) (ms es ms' es' : List ℕ) : Type 0 where
@@ -70,6 +70,6 @@ pub record SetsListed (ss : List (List ℕ)) (n : ℕ) (ls le ls' le' : List ℕ
   pub within : length (concat ss) ≤ n
   pub few : length ss ≤ n
 
--- The numbers of the first n parts of a listing were written in the order of their rectangles.
-pub record SetsOrdered (pieces ls le : List ℕ) (n : ℕ) (o o' : List ℕ) : Type 0 where
-  pub content : o' ≡ written (sorted_indexes (ruling_keys pieces (parts_of ls le n))) o
+-- The numbers of the sets below n were written in the order of their rectangles.
+pub record SetsOrdered (pieces : List ℕ) (set : ℕ → List ℕ) (n : ℕ) (o o' : List ℕ) : Type 0 where
+  pub content : o' ≡ written (sorted_indexes (ruling_keys pieces (parts_of set n))) o

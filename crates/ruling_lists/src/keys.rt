@@ -1,11 +1,13 @@
 // The order of the sets of pieces: by the smallest rectangles around them.
-ghost use Rattle.std.specs.Prelude.{◌≡◌, ◌≤◌, ◌<◌, ◌^◌, length, take};
+ghost use Rattle.std.specs.Prelude.{◌≡◌, ◌≤◌, ◌<◌, length};
 ghost use Rattle.lists.specs.Lists.{written};
-ghost use Rattle.order.specs.Order.{sorted_indexes};
+ghost use Rattle.rects.specs.Around.{around};
 ghost use Rattle.rects.specs.Steps.{Inside, AllInside};
+ghost use Rattle.listings.specs.Listed.{set_of};
 ghost use Rattle.ruling_lists.specs.Rulings.{ruling_key, ruling_keys};
 ghost use Rattle.ruling_lists.specs.Steps.{Parts, parts_of};
 
+use listings::listed::Sets;
 use rects::Rect;
 
 // y0, x0, y1, x1 as one number.
@@ -16,21 +18,18 @@ fn key_of(r: Rect) -> u64
     ((u64::from(r.y0) * 8192 + u64::from(r.x0)) * 8192 + u64::from(r.y1)) * 8192 + u64::from(r.x1)
 }
 
-// The keys of the sets of a listing.
-pub fn set_keys(pieces: &[u32], members: &[u32], ends: &[u32], count: usize, keys: &mut [u64])
-    requires { AllInside 8192 8192 pieces.now × Parts pieces.now members.now ends.now count × (count ≤ length keys.old) }
-    ensures { keys.new ≡ written (ruling_keys pieces.now (parts_of members.now ends.now count)) keys.old }
+// The key of set k of a listing.
+fn key_at(pieces: &[u32], sets: &Sets, k: usize) -> u64
+    requires { AllInside 8192 8192 pieces.now × Parts pieces.now (set_of sets.now) sets.now.count × (k < sets.now.count) }
+    ensures { result ≡ ruling_key (around pieces.now (set_of sets.now k)) }
 {
-    for k in 0..count {
-        let set = listings::members_of(members, ends, count, k);
-        keys[k] = key_of(rects::bounding(pieces, set));
-    }
+    key_of(rects::bounding(pieces, sets.at(k)))
 }
 
-// The numbers of the sets in the order of their keys.
-pub fn sort_sets(keys: &[u64], count: usize, order: &mut [u32], work: &mut [u32])
-    requires { (count < 2 ^ 32) × (count ≤ length keys.now) × (count ≤ length order.old) × (count ≤ length work.old) }
-    ensures { order.new ≡ written (sorted_indexes (take count keys.now)) order.old }
+// The keys of the sets of a listing.
+pub fn set_keys(pieces: &[u32], sets: &Sets, keys: &mut [u64])
+    requires { AllInside 8192 8192 pieces.now × Parts pieces.now (set_of sets.now) sets.now.count × (sets.now.count ≤ length keys.old) }
+    ensures { keys.new ≡ written (ruling_keys pieces.now (parts_of (set_of sets.now) sets.now.count)) keys.old }
 {
-    sort::sort(&keys[..count], order, work);
+    lists::put_all(|k| key_at(pieces, sets, k), sets.count, 0, keys);
 }

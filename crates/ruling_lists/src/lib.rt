@@ -1,5 +1,4 @@
-// The lists that are written of the rulings: the closed sets of pieces in the order of their rulings, and each ruling. The
-// number of sets stands beside a listing, since its lists are lent and may be longer.
+// The lists that are written of the rulings: the closed sets of pieces in the order of their rulings, and each ruling.
 #![tactic(auto)]
 
 pub mod keys;

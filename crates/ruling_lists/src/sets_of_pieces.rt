@@ -3,9 +3,12 @@ ghost use Rattle.std.specs.Prelude.{◌≤◌, ◌<◌, ◌^◌, length};
 ghost use Rattle.rects.specs.Rects.{count};
 ghost use Rattle.rects.specs.Steps.{AllInside};
 ghost use Rattle.sets.specs.Steps.{Room};
+ghost use Rattle.listings.specs.Listed.{set_of};
 ghost use Rattle.ruling_lists.specs.Rulings.{piece_sets};
 ghost use Rattle.pieces.specs.Steps.{AllOrdered};
 ghost use Rattle.ruling_lists.specs.Steps.{Parts, SetsListed, SetsOrdered};
+
+use listings::listed::Sets;
 
 // Lists the closed sets by smallest index, and returns how many there are. The parents, the work list and the keys are free afterwards; the pieces
 // are sorted in the list that then holds the sets.
@@ -31,17 +34,15 @@ pub fn list_sets(
 // The numbers of the listed sets in the order of their rectangles.
 pub fn order_sets(
     pieces: &[u32],
-    listed: &[u32],
-    listed_ends: &[u32],
-    count: usize,
+    sets: &Sets,
     order: &mut [u32],
     work: &mut [u32],
     keys: &mut [u64],
 )
-    requires { AllInside 8192 8192 pieces.now × Parts pieces.now listed.now listed_ends.now count
-        × (count < 2 ^ 32) × (count ≤ length order.old) × (count ≤ length work.old) × (count ≤ length keys.old) }
-    ensures { SetsOrdered pieces.now listed.now listed_ends.now count order.old order.new }
+    requires { AllInside 8192 8192 pieces.now × Parts pieces.now (set_of sets.now) sets.now.count × (sets.now.count < 2 ^ 32)
+        × (sets.now.count ≤ length order.old) × (sets.now.count ≤ length work.old) × (sets.now.count ≤ length keys.old) }
+    ensures { SetsOrdered pieces.now (set_of sets.now) sets.now.count order.old order.new }
 {
-    crate::keys::set_keys(pieces, listed, listed_ends, count, keys);
-    crate::keys::sort_sets(keys, count, order, work);
+    crate::keys::set_keys(pieces, sets, keys);
+    sort::sort(&keys[..sets.count], order, work);
 }

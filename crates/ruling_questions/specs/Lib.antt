@@ -1,3 +1,3 @@
--- What a reader must believe of the questions that `segments` puts. `Steps` is not needed to read the contracts.
+-- What a reader must believe of the questions that `segments` puts.
 pub mod Questions
-pub mod Steps
+pub mod Lent

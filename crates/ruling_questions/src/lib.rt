@@ -1,4 +1,5 @@
-// The questions that `segments` puts.
+// The questions that `segments` puts, and the lists that it is lent.
 #![tactic(auto)]
 
 pub mod guard;
+pub mod lent;

@@ -1,6 +1,6 @@
 // Writes what was found on a form, in words and numbers.
-ghost use Rattle.std.specs.Prelude.{◌<◌};
-
+use evidence::finding::{Finding, Kind, Row};
+use read_findings::lent::FindingLists;
 use small_pages::found::Found;
 use std::io;
 
@@ -14,54 +14,77 @@ pub fn show(rt: &impl Print, found: &Found) -> io::Result<()> {
         "{} tables, {} boxes, {} grids, {} findings",
         a.tables, a.boxes, a.grids, a.findings
     )?;
-    for i in 0..a.findings.min(32) {
-        finding(rt, found, i)?;
+    let lists = lists(found);
+    for i in 0..a.findings {
+        if let Some(f) = read_findings::finding_at(&lists, a.findings, i) {
+            finding(rt, f)?;
+        }
     }
     Ok(())
 }
 
-// Finding i: its kind, its rectangle on the page, its facts, its log odds.
-fn finding(rt: &impl Print, found: &Found, i: usize) -> io::Result<()>
-    requires { i < 32 }
-{
-    let a = found.a[i];
-    let b = found.b[i];
-    let c = found.c[i];
-    let first = found.first_values[i];
-    let second = found.second_values[i];
-    let length = found.lengths[i];
-    let log_odds = found.log_odds[i];
-    match found.kinds[i] {
-        16 => {
-            place(rt, found, i, "table")?;
+fn lists(found: &Found) -> FindingLists {
+    FindingLists {
+        rects: &found.page,
+        kinds: &found.kinds,
+        a: &found.a,
+        b: &found.b,
+        c: &found.c,
+        log_odds: &found.log_odds,
+        first_values: &found.first_values,
+        first_thresholds: &found.first_thresholds,
+        first_llrs: &found.first_llrs,
+        second_values: &found.second_values,
+        second_thresholds: &found.second_thresholds,
+        second_llrs: &found.second_llrs,
+        lengths: &found.lengths,
+    }
+}
+
+// A finding: its kind, its rectangle on the page, its facts, its log odds.
+fn finding(rt: &impl Print, f: Finding) -> io::Result<()> {
+    let first = f.first.value;
+    let log_odds = f.log_odds;
+    match f.kind {
+        Kind::Table {
+            rows,
+            columns,
+            rulings,
+            second,
+        } => {
+            let share = second.value;
+            place(rt, f, "table")?;
             print!(rt;
-                ", {a} rows, {b} columns, {c} rulings, cells {first:.2}, joined share {second:.2}"
+                ", {rows} rows, {columns} columns, {rulings} rulings, cells {first:.2}, joined share {share:.2}"
             )?;
         }
-        18 => {
-            place(rt, found, i, "grid")?;
-            print!(rt; ", {a} boxes, {b} ticked, mean edge {second:.2}")?;
+        Kind::Grid {
+            boxes,
+            ticked,
+            second,
+        } => {
+            let coverage = second.value;
+            place(rt, f, "grid")?;
+            print!(rt; ", {boxes} boxes, {ticked} ticked, mean edge {coverage:.2}")?;
         }
-        19 => {
-            let direction = if a == 0 { "horizontal" } else { "vertical" };
-            place(rt, found, i, "fold")?;
+        Kind::Fold { vertical, length } => {
+            let direction = if vertical { "vertical" } else { "horizontal" };
+            place(rt, f, "fold")?;
             print!(rt; ", {direction}, contrast {first:.2}, inches {length:.2}")?;
         }
-        _ => {
-            place(rt, found, i, "rules")?;
+        Kind::FreeRules { .. } => {
+            place(rt, f, "rules")?;
             print!(rt; ", rules")?;
         }
     }
     println!(rt; ", log odds {log_odds:.2}")
 }
 
-fn place(rt: &impl Print, found: &Found, i: usize, name: &str) -> io::Result<()>
-    requires { i < 32 }
-{
-    let kind = found.kinds[i];
-    let x0 = found.page[4 * i];
-    let y0 = found.page[4 * i + 1];
-    let x1 = found.page[4 * i + 2];
-    let y1 = found.page[4 * i + 3];
-    print!(rt; "{name} from {x0}, {y0} to {x1}, {y1}: kind {kind}")
+fn place(rt: &impl Print, f: Finding, name: &str) -> io::Result<()> {
+    let kind = Row::from(f).kind;
+    let r = f.bbox;
+    print!(rt;
+        "{name} from {}, {} to {}, {}: kind {kind}",
+        r.x0, r.y0, r.x1, r.y1
+    )
 }

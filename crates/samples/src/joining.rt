@@ -50,8 +50,8 @@ fn join_on_white(across: f64, gap: f64, pieces: &[u32], rects: &mut [u32; 16]) -
     )
 }
 
-// The number of rulings that up to four pieces make on a picture, 0 where they are refused; their
-// rectangles and contrasts go into the lists.
+// The number of rulings that up to four pieces make on a picture, 0 where they are refused: no `Option`, since it is only
+// compared with the right number, which is above 0. Their rectangles and contrasts go into the lists.
 pub fn join(
     raster: &[u8],
     w: usize,

@@ -1,5 +1,5 @@
 -- What `segments` promises, for accepted and for refused input.
-use Rattle.std.specs.Prelude.{ℕ, ◌*◌, ◌<◌, ◌≡◌, Bool, cond, ◌&&◌, List, [], leb, eqb, Float, length, get_or}
+use Rattle.std.specs.Prelude.{ℕ, ◌<◌, ◌≡◌, Bool, cond, ◌&&◌, List, [], eqb, Float, length, get_or}
 use Rattle.std.specs.Float.{nan}
 use Rattle.lists.specs.Lists.{In, concat, written}
 use Rattle.sets.specs.Closed.{Below, Listed}
@@ -7,9 +7,11 @@ use Rattle.sets.specs.Listing.{ends_from, ReadAs}
 use Rattle.questions.specs.Questions.{Question, first_missed}
 use Rattle.rects.specs.Rects.{count, rect_at}
 use Rattle.rects.specs.Around.{Smallest, around}
+use Rattle.layout.specs.Sides.{raster_fits}
 use Rattle.params.specs.declared.settings.RulingsParams.{RulingsParams}
 use Rattle.params.specs.Limits.{IsLimit, across_limit, gap_limit}
 use Rattle.pieces.specs.Pieces.{horizontal, Touch}
+use Rattle.ruling_questions.specs.Lent.{Lent, room_for}
 use Rattle.ruling_questions.specs.Questions.{ruling_questions}
 use Rattle.segments.specs.declared.segments.Answer.{Answer}
 use Rattle.ruling_lists.specs.Rulings.{ordered_sets, direction_of, Near, ruling_rects, directions_of, contrasts_of, StandsBefore}
@@ -23,27 +25,10 @@ pub record Given : Type 0 where
   pub settings : RulingsParams
   pub pieces : List ℕ
 
--- The lists that it is lent: of the rulings, with the sets of pieces, then work lists.
-pub record Lent : Type 0 where
-  pub rects : List ℕ
-  pub directions : List ℕ
-  pub contrasts : List Float
-  pub piece_members : List ℕ
-  pub piece_ends : List ℕ
-  pub parents : List ℕ
-  pub listed : List ℕ
-  pub listed_ends : List ℕ
-  pub work : List ℕ
-  pub keys : List ℕ
-
 -- Question 14: the levelled raster is exactly width × height; there is room for as many rulings as pieces, and each index, member or work list has
 -- one entry a piece.
 abbrev pub has_room : Given → Lent → Bool
-has_room g l =
-    let n = count g.pieces in
-    eqb (length g.raster) (g.w * g.h) && leb (4 * n) (length l.rects) && leb n (length l.directions) && leb n (length l.contrasts)
-    && leb n (length l.piece_members) && leb n (length l.piece_ends) && leb n (length l.parents) && leb n (length l.listed)
-    && leb n (length l.listed_ends) && leb n (length l.work) && leb n (length l.keys)
+has_room g l = raster_fits g.w g.h (length g.raster) && room_for (count g.pieces) l
 
 -- The questions that it puts, in document 01's order.
 abbrev pub questions : Given → Lent → List Question

@@ -1,32 +1,33 @@
 -- What the core of `segments` asks and leaves; none of it is needed to read the call's contract.
-use Rattle.std.specs.Prelude.{◌≡◌, List, ℕ, ◌≤◌, Float, length}
+use Rattle.std.specs.Prelude.{◌≡◌, List, ℕ, ◌≤◌, length}
 use Rattle.sets.specs.Listing.{ReadAs}
 use Rattle.rects.specs.Rects.{count}
+use Rattle.paper.specs.Pixels.{Raster}
+use Rattle.ruling_questions.specs.Lent.{Lent}
 use Rattle.ruling_lists.specs.Steps.{Picture, RoomForRulings, Described, Strung}
 
--- Five lists have an entry for each of n pieces.
-pub record WorkRoom (n : ℕ) (ps ls le ws ks : List ℕ) : Type 0 where
-  pub parents : n ≤ length ps
-  pub listed : n ≤ length ls
-  pub listed_ends : n ≤ length le
-  pub work : n ≤ length ws
-  pub keys : n ≤ length ks
+-- Every list has room for n pieces: what question 14 shows.
+pub record Roomy (n : ℕ) (l : Lent) : Type 0 where
+  pub rulings : RoomForRulings n l.rects l.directions l.contrasts
+  pub members : n ≤ length l.piece_members
+  pub ends : n ≤ length l.piece_ends
+  pub parents : n ≤ length l.parents
+  pub listed : n ≤ length l.listed
+  pub listed_ends : n ≤ length l.listed_ends
+  pub work : n ≤ length l.work
+  pub keys : n ≤ length l.keys
 
 -- What the questions give: a picture with at most 4,096 pieces, and room in every list.
-pub record Ready (raster : List ℕ) (w h : ℕ) (pieces : List ℕ) (rs ds : List ℕ) (cs : List Float) (ms es ps ls le ws ks : List ℕ) : Type 0 where
-  pub picture : Picture (record { pixels = raster; w = w; h = h }) pieces
+pub record Ready (raster : Raster) (pieces : List ℕ) (l : Lent) : Type 0 where
+  pub picture : Picture raster pieces
   pub few : count pieces ≤ 4096
-  pub rulings : RoomForRulings (count pieces) rs ds cs
-  pub members : count pieces ≤ length ms
-  pub ends : count pieces ≤ length es
-  pub work : WorkRoom (count pieces) ps ls le ws ks
+  pub roomy : Roomy (count pieces) l
 
 -- The rulings of some sets were written, and the sets with them; there are no more rulings than pieces, and the lists give
 -- each set back.
-pub record Made (raster : List ℕ) (w h : ℕ) (pieces : List ℕ) (ss : List (List ℕ)) (rs ds : List ℕ) (cs : List Float)
-    (ms es rs' ds' : List ℕ) (cs' : List Float) (ms' es' : List ℕ) (r : ℕ) : Type 0 where
+pub record Made (raster : Raster) (pieces : List ℕ) (ss : List (List ℕ)) (l l' : Lent) (r : ℕ) : Type 0 where
   pub few : r ≤ count pieces
   pub count : r ≡ length ss
-  pub described : Described (record { pixels = raster; w = w; h = h }) pieces ss rs ds cs rs' ds' cs'
-  pub strung : Strung ss ms es ms' es'
-  pub read : ReadAs ss ms' es' r
+  pub described : Described raster pieces ss l.rects l.directions l.contrasts l'.rects l'.directions l'.contrasts
+  pub strung : Strung ss l.piece_members l.piece_ends l'.piece_members l'.piece_ends
+  pub read : ReadAs ss l'.piece_members l'.piece_ends r

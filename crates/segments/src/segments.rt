@@ -1,10 +1,15 @@
 // The call: pieces to rulings.
 ghost use Rattle.ruling_lists.specs.Rulings.{ordered_sets};
+ghost use Rattle.ruling_questions.specs.Lent.{lists_of, Same};
 ghost use Rattle.segments.specs.Call.{Segments};
 ghost use Rattle.segments.specs.Steps.{Ready, Made};
 
+use listings::listed::Sets;
 use paper::Raster;
 use params::settings::RulingsParams;
+use ruling_lists::{sets_of_pieces, write};
+use ruling_questions::guard;
+use ruling_questions::lent::Lists;
 
 // The number of the first missed question, 0 where the page is accepted, and the number of rulings. No `Result`: C gets
 // it as it is.
@@ -16,50 +21,46 @@ pub struct Answer {
 }
 
 // The rulings of a page that passed its questions, and how many there are. Once the sets are listed, the parents hold their order.
-pub fn rulings(
-    raster: &Raster,
-    pieces: &[u32],
-    across: u32,
-    gap: u32,
-    rects: &mut [u32],
-    directions: &mut [u32],
-    contrasts: &mut [f64],
-    members: &mut [u32],
-    ends: &mut [u32],
-    parents: &mut [u32],
-    listed: &mut [u32],
-    listed_ends: &mut [u32],
-    work: &mut [u32],
-    keys: &mut [u64],
-) -> usize
-    requires { Ready raster.now.pixels raster.now.w raster.now.h pieces.now rects.old directions.old contrasts.old
-        members.old ends.old parents.old listed.old listed_ends.old work.old keys.old }
-    ensures { Made raster.now.pixels raster.now.w raster.now.h pieces.now (ordered_sets pieces.now across gap)
-        rects.old directions.old contrasts.old members.old ends.old
-        rects.new directions.new contrasts.new members.new ends.new result }
+pub fn rulings(raster: &Raster, pieces: &[u32], across: u32, gap: u32, lists: &mut Lists) -> usize
+    requires { Ready raster.now pieces.now (lists_of lists.old) }
+    ensures made { Made raster.now pieces.now (ordered_sets pieces.now across gap)
+        (lists_of lists.old) (lists_of lists.new) result }
+    ensures same { Same lists.old lists.new }
 {
-    let count = ruling_lists::sets_of_pieces::list_sets(
+    let members = &mut *lists.listed;
+    let ends = &mut *lists.listed_ends;
+    let count = sets_of_pieces::list_sets(
         pieces,
         across,
         gap,
-        parents,
-        listed,
-        listed_ends,
-        work,
-        keys,
+        lists.parents,
+        members,
+        ends,
+        lists.work,
+        lists.keys,
     );
-    ruling_lists::sets_of_pieces::order_sets(
-        pieces,
-        listed,
-        listed_ends,
+    let listed = Sets {
+        members,
+        ends,
         count,
-        parents,
-        work,
-        keys,
-    );
-    ruling_lists::write::write_sets(parents, count, listed, listed_ends, members, ends);
-    ruling_lists::write::write_rulings(
-        raster, pieces, members, ends, count, rects, directions, contrasts,
+    };
+    let order = &mut *lists.parents;
+    sets_of_pieces::order_sets(pieces, &listed, order, lists.work, lists.keys);
+    let members = &mut *lists.piece_members;
+    let ends = &mut *lists.piece_ends;
+    write::write_sets(order, &listed, members, ends);
+    let sets = Sets {
+        members,
+        ends,
+        count,
+    };
+    write::write_rulings(
+        raster,
+        pieces,
+        &sets,
+        lists.rects,
+        lists.directions,
+        lists.contrasts,
     );
     count
 }
@@ -116,25 +117,42 @@ pub fn segments(
           keys = keys.new;
         }) result }
 {
-    let asked = ruling_questions::guard::missed(
-        w,
-        h,
-        xheight,
-        pieces,
-        p,
-        raster.len(),
-        rects.len(),
-        directions.len(),
-        contrasts.len(),
-        members.len(),
-        ends.len(),
-        parents.len(),
-        listed.len(),
-        listed_ends.len(),
-        work.len(),
-        keys.len(),
-    );
-    if let Err(missed) = asked {
+    let mut lists = Lists {
+        rects,
+        directions,
+        contrasts,
+        piece_members: members,
+        piece_ends: ends,
+        parents,
+        listed,
+        listed_ends,
+        work,
+        keys,
+    };
+    find_rulings(raster, w, h, xheight, pieces, p, &mut lists)
+}
+
+// The same, over the struct of the lists.
+fn find_rulings(
+    raster: &[u8],
+    w: usize,
+    h: usize,
+    xheight: f64,
+    pieces: &[u32],
+    p: RulingsParams,
+    lists: &mut Lists,
+) -> Answer
+    ensures answers { Segments (record {
+      raster = raster.now;
+      w = w;
+      h = h;
+      xheight = xheight;
+      settings = p;
+      pieces = pieces.now;
+    }) (lists_of lists.old) (lists_of lists.new) result }
+    ensures same { Same lists.old lists.new }
+{
+    if let Err(missed) = guard::missed(w, h, xheight, pieces, p, raster, lists) {
         return Answer {
             number: missed.number(),
             count: 0,
@@ -147,21 +165,6 @@ pub fn segments(
         w,
         h,
     };
-    let count = rulings(
-        &raster,
-        pieces,
-        across,
-        gap,
-        rects,
-        directions,
-        contrasts,
-        members,
-        ends,
-        parents,
-        listed,
-        listed_ends,
-        work,
-        keys,
-    );
+    let count = rulings(&raster, pieces, across, gap, lists);
     Answer { number: 0, count }
 }

@@ -6,7 +6,7 @@ ghost use Rattle.std.specs.Float.Ieee.{is_nan};
 ghost use Rattle.std.specs.Float.Ieee.Scale as Scale;
 ghost use Rattle.math.specs.Select.{absolute, negative, minimum_number, maximum_number, clamp_to};
 
-// Neither a NaN nor an infinity.
+// Neither a NaN nor an infinity. It and `abs` stand for the definitions that contracts name.
 pub fn finite(x: f64) -> bool
     ensures { result ≡ Scale.finite x }
 {

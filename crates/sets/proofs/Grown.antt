@@ -12,7 +12,7 @@ use native.Mathlib.Omega.{arith}
 use lib.Dec.{eqb}
 use lib.ListN.{length, get_or}
 use borrow.Author.Tests.{eqb-true, eq-eqb}
-use Rattle.lists.specs.Lists.{below, keep, any, In}
+use Rattle.lists.specs.Lists.{below, keep, any, concat, In}
 use Rattle.lists.proofs.Keep.{length_below, in_below, below_in, kept_in, in_kept, any_true, true_any, map_same}
 use Rattle.sets.specs.Closed.{Below, Touching, Chain, here, Ascending, nothing, before, Listed}
 use Rattle.sets.specs.Steps.{Represents, class_of, classes}
@@ -21,6 +21,7 @@ use Rattle.sets.proofs.Ascending.{ascending_below, ascending_keep, ascending_sam
 use Rattle.sets.proofs.Chains.{chain_append, chain_back, chain_step, chain_carry, chain_last}
 use Rattle.sets.proofs.Classes.{in_class, class_in_lem, classes_listed, classes_same}
 use Rattle.sets.proofs.Represents.{represents_unique}
+use Rattle.sets.proofs.Sizes.{classes_room}
 
 or_cases : (a b : Bool) → a || b ≡ true → (a ≡ true) ⊎ (b ≡ true)
 or_cases true b e = inl refl
@@ -176,6 +177,10 @@ module _ (n : ℕ) (touch : ℕ → ℕ → Bool) where
         where
           represents_along : {a b : ℕ} → Chain (Below n) (Holds touch) a b → least a ≡ least b
           represents_along c = ap (λ (s : List ℕ). get_or s 0 0) (chain_same c)
+
+  -- all closed sets together have no more members than there are indexes
+  pub sets_total : length (concat (closed_sets n touch)) ≤ n
+  sets_total = rw sets_classes (classes_room n least least_represents.fixed)
 
   -- what `closed_sets` computes is the listing of the closed sets
   pub closed_sets_listed : Listed (Below n) (Holds touch) (closed_sets n touch)

@@ -2,7 +2,7 @@
 // them only by what the contracts say of roots.
 #![tactic(auto)]
 
-ghost use Rattle.std.specs.Prelude.{◌≡◌, true, map, ◌<◌};
+ghost use Rattle.std.specs.Prelude.{◌≡◌, Bool, true, map, ◌<◌};
 ghost use Rattle.lists.specs.Lists.{below, written};
 ghost use Rattle.sets.specs.Steps.{Room, Parents, root, Found, Joined};
 
@@ -45,16 +45,28 @@ pub fn join(parents: &mut [u32], n: usize, a: usize, b: usize)
     }
 }
 
-// The same with the decision as a bool, which spares the caller a branch. Two indexes with one parent are in one set already.
-pub fn join_if(parents: &mut [u32], n: usize, a: usize, b: usize, touch: bool)
-    requires { Parents n parents.old × (a < n) × (b < n) }
-    ensures { Joined n parents.old a b touch parents.new }
+// Joins the sets of two indexes if they touch, and tells whether they are in one set now. Two with one parent were before, so that `touch` is
+// asked only where the parents differ.
+pub fn join_if<F: FnOnce() -> bool>(
+    parents: &mut [u32],
+    n: usize,
+    a: usize,
+    b: usize,
+    touch: F,
+) -> bool
+    requires given { F.pre touch }
+    requires pair { Parents n parents.old × (a < n) × (b < n) }
+    ensures joined { (t : Bool) → ((r : Bool) → F.post touch r → r ≡ t) → Joined n parents.old a b t parents.new }
+    ensures one { result ≡ true → root parents.new a ≡ root parents.new b }
 {
-    if touch {
-        if parents[a] != parents[b] {
-            join(parents, n, a, b);
-        }
+    if parents[a] == parents[b] {
+        return true;
     }
+    if touch() {
+        join(parents, n, a, b);
+        return true;
+    }
+    false
 }
 
 // Each index below n points at its root, the smallest index of its set.

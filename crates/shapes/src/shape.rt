@@ -16,12 +16,14 @@ fn in_direction(a: Segment, horizontal: bool) -> bool
 }
 
 // Writes the line positions of the set's rulings in a direction, and returns how many there are. What is written for a ruling
-// of the other direction is overwritten by the next.
+// of the other direction is overwritten by the next. That members are indexes of rulings stands as a fact of their list, here as in
+// `junctions` and `table_lists`: a struct of both would be made anew for each set, and callers have the list alone.
 fn collect(rulings: &Rulings, set: &[u32], horizontal: bool, keys: &mut [u64]) -> usize
     requires { IndexesBelow (length rulings.now.chosen) set.now × (length set.now ≤ length keys.old) }
     ensures { Collected horizontal (ruling rulings.now) set.now
         keys.new result }
 {
+    // The number steps by hand, since only what is listed counts.
     let mut n = 0;
     for i in set {
         let a = rulings.at(*i as usize);
@@ -69,7 +71,8 @@ fn is_table(limits: Limits, h: Count, v: Count) -> bool
         & (2 <= v.lines)
 }
 
-// Is the set a table, and how many lines has it each way?
+// Is the set a table, and how many lines has it each way? No `Option` of the two counts: the lines of a set that is no table are promised
+// too.
 #[derive(Clone, Copy)]
 pub struct Shape {
     pub table: bool,

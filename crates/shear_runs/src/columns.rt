@@ -1,5 +1,5 @@
 // Columns that are levelled together.
-ghost use Rattle.std.specs.Prelude.{◌<◌, length};
+ghost use Rattle.std.specs.Prelude.{◌≡◌, ◌<◌, length};
 ghost use Rattle.layout.specs.Steps.{NotBelow};
 ghost use Rattle.shear_runs.specs.Steps.{Run, Together};
 
@@ -19,10 +19,11 @@ pub fn run_end(table: &[i32], from: usize) -> usize
     table.len()
 }
 
-// Columns that are levelled together: where they end, and whether they are a run. An enum of the two would be no plainer: the loops
-// over columns go on at the end of either.
+// Columns that are levelled together: where they begin and end, and whether they are a run. An enum of the two would be no plainer: the
+// loops over columns go on at the end of either.
 #[derive(Clone, Copy)]
 pub struct Part {
+    pub from: usize,
     pub to: usize,
     pub run: bool,
 }
@@ -30,19 +31,25 @@ pub struct Part {
 // What is levelled together from column `from` on: a run of at least four columns, or else the next 64, each by itself.
 pub fn part_at(table: &[i32], from: usize) -> Part
     requires { (from < length table.now) × NotBelow table.now }
-    ensures { Together table.now from result.to result.run }
+    ensures { (result.from ≡ from) × Together table.now from result.to result.run }
 {
     let to = run_end(table, from);
     if 4 <= to - from {
-        return Part { to, run: true };
+        return Part {
+            from,
+            to,
+            run: true,
+        };
     }
     if table.len() - from <= 64 {
         return Part {
+            from,
             to: table.len(),
             run: false,
         };
     }
     Part {
+        from,
         to: from + 64,
         run: false,
     }

@@ -1,3 +1,2 @@
 -- Why a sort by keys leaves the indexes in order, and what stands past a key.
 pub mod Arranged
-pub mod Writing

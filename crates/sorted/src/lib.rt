@@ -2,7 +2,7 @@
 // a look at the rest. The number n of indexes stands beside the lists, since these are lent and may be longer.
 #![tactic(auto)]
 
-ghost use Rattle.std.specs.Prelude.{◌≡◌, ◌≤◌, ◌^◌, drop};
+ghost use Rattle.std.specs.Prelude.{◌≡◌, ℕ, ◌≤◌, ◌<◌, ◌^◌, drop, get_or};
 ghost use Rattle.sorted.specs.Steps.{offset, SortRoom, InOrder, FirstAtLeast};
 
 // What is added to the keys of the second of two kinds, so that these stand behind all of the first, whose keys are smaller.
@@ -19,6 +19,24 @@ pub fn arrange(keys: &[u64], n: usize, order: &mut [u32], work: &mut [u32])
     ensures { InOrder n keys.now order.new × (drop n order.new ≡ drop n order.old) }
 {
     sort::sort(&keys[..n], order, work);
+}
+
+// Writes the key of each index below n, as `key` gives it, and puts the indexes in the order of these.
+pub fn arrange_by<F: Fn(usize) -> u64>(
+    key: F,
+    n: usize,
+    order: &mut [u32],
+    work: &mut [u32],
+    keys: &mut [u64],
+)
+    requires given { (i : ℕ) → i < n → F.pre key i }
+    requires room { SortRoom n order.old work.old keys.old }
+    ensures keyed { (i : ℕ) → i < n → F.post key i (get_or keys.new i 0) }
+    ensures ordered { InOrder n keys.new order.new }
+    ensures kept { drop n order.new ≡ drop n order.old }
+{
+    lists::put_all(key, n, 0, keys);
+    arrange(keys, n, order, work);
 }
 
 // The first place whose key is at least the bound; n where there is none.

@@ -2,6 +2,7 @@
 use crate::words::Reader;
 use layout::sides::Sides;
 
+// By `as`, since there is no `From` from u64 to usize.
 pub fn read(reader: &mut Reader<'_>) -> Sides {
     Sides {
         pw: reader.word() as usize,

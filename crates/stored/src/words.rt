@@ -1,5 +1,6 @@
 // The words of the stored calls: hex digits, ended by one byte that is none.
-ghost use Rattle.std.specs.Prelude.{◌≡◌, ◌↔◌, ◌≤◌, ◌<◌, List, ℕ, length, IfSome, IsTrue};
+ghost use Rattle.std.specs.Prelude.{◌≡◌, ◌↔◌, ◌≤◌, ◌<◌, List, ℕ, length, map, IfSome, IsTrue};
+ghost use Rattle.stored.specs.Texts.{digit_of, word_of, behind, words, rest};
 
 use std::marker::Model;
 
@@ -30,9 +31,12 @@ impl<'a> Reader<'a> {
 
     // The next word, of which the last 16 digits count; 0 at the end of the text.
     pub fn word(&mut self) -> u64
-        ensures { length self.new ≤ length self.old }
+        ensures shorter { length self.new ≤ length self.old }
+        ensures word { result ≡ word_of self.old }
+        ensures left { self.new ≡ behind self.old }
     {
         let mut value = 0;
+        // A `while`, since it ends with the input.
         while let Some((b, rest)) = self.rest.split_first() {
             self.rest = rest;
             match digit(*b) {
@@ -46,6 +50,8 @@ impl<'a> Reader<'a> {
     // Fills `out` with entries, each what `of` makes of a word.
     pub fn fill<T: Copy, F: Fn(u64) -> T>(&mut self, out: &mut [T], of: F)
         requires { F.IsAlwaysCallable of }
+        ensures entries { (g : ℕ → T) → ((x : ℕ) (r : T) → F.post of x r → r ≡ g x) → out.new ≡ map g (words (length out.old) self.old) }
+        ensures left { self.new ≡ rest (length out.old) self.old }
     {
         for x in out.iter_mut() {
             *x = of(self.word());
@@ -58,6 +64,7 @@ impl<'a> Reader<'a> {
         requires { F.IsAlwaysCallable of }
         ensures { result ≤ length out.new }
     {
+        // By `as`, since there is no `From` between usize and u64.
         let n = self.word().min(out.len() as u64) as usize;
         self.fill(&mut out[..n], of);
         n
@@ -65,8 +72,10 @@ impl<'a> Reader<'a> {
 }
 
 // The value of a hex digit.
+#[tactic(auto, unfolding(crate::specs::Texts::digit_of))]
 fn digit(b: u8) -> Option<u64>
-    ensures { IfSome result (λ d. d < 16) }
+    ensures range { IfSome result (λ d. d < 16) }
+    ensures value { result ≡ digit_of b }
 {
     match b {
         b'0'..=b'9' => Some(u64::from(b - b'0')),

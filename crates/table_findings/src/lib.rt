@@ -11,7 +11,7 @@ ghost use Rattle.finding_lists.specs.Steps.{Wrote, RanksGiven, SameFindings};
 ghost use Rattle.findings.specs.Steps.{table_key, TablesGiven};
 ghost use Rattle.findings.specs.Made.{table_at};
 
-use evidence::finding::Finding;
+use evidence::finding::{Finding, KindName};
 use finding_lists::lent::LentFindings;
 use finding_lists::put;
 use findings::sources::{Scan, TableLists};
@@ -22,8 +22,8 @@ pub fn keys(scan: &Scan, bounds: &[u32], at: usize, keys: &mut [u64])
     ensures { keys.new ≡ sets keys.old at
         (map (table_key scan.now.sides scan.now.shear scan.now.shear_x bounds.now) (below (count bounds.now))) }
 {
-    findings::keys::put_all(
-        |k| scan.key(rects::rect_at(bounds, k), 16),
+    lists::put_all(
+        |k| scan.key(rects::rect_at(bounds, k), KindName::Table),
         bounds.len() / 4,
         at,
         keys,

@@ -11,28 +11,17 @@ use Rattle.lists.specs.Lists.{below, keep, written}
 use Rattle.lists.proofs.Keep.{length_below, map_append}
 use Rattle.lists.proofs.Sizes.{keep_size_le, keep_one, keep_past}
 use Rattle.lists.proofs.Written.{written_more, written_run}
+use Rattle.lists.proofs.Runs.{strung, strung_one, strung_fits}
 use Rattle.meeting.specs.declared.segment.Segment.{Segment}
 use Rattle.shapes.specs.declared.limits.Limits.{Limits}
 use Rattle.shapes.specs.Shapes.{is_table, lines_of, rows_of, columns_of}
 use Rattle.table_lists.specs.Answers.{table_numbers, free_numbers, free_list}
 use Rattle.meeting.specs.Steps.{IndexesBelow}
 use Rattle.table_lists.specs.Steps.{SetsIn, Chose}
-use Rattle.table_lists.proofs.Strung.{strung, strung_one, strung_fits}
 
 -- a set below the count, as it was read
 pub set_read : {n : ℕ} {f : ℕ → List ℕ} {count k : ℕ} {xs : List ℕ} → SetsIn n f count → k < count → xs ≡ f k → IndexesBelow n xs × (0 < length xs)
 set_read S h e = rw e (S.inside _ h, S.some _ h)
-
--- the first numbers of a list, one more
-pub taken_more : (l : List ℕ) (t : ℕ) → t < length l → take (t + 1) l ≡ take t l ++ (get_or l t 0 ∷ [])
-taken_more l t h = ap (λ (j : ℕ). take j l) (add-one t) ∙ take-suc l t 0 h
-
--- one more value of f behind those of the first numbers
-pub mapped_more : {A : Type 0} (f : ℕ → A) (l : List ℕ) (t : ℕ) (lent now : List A) (v : A) → now ≡ written (map f (take t l)) lent → t < length l
-    → t < length lent → v ≡ f (get_or l t 0) → set now t v ≡ written (map f (take (t + 1) l)) lent
-mapped_more f l t lent now v e h room ev =
-    written_more (map f (take t l)) lent v e (length-map (take t l) f ∙ length-take-le t l (omega arith)) room
-    (ap (map f) (taken_more l t h) ∙ map_append f (take t l) (get_or l t 0 ∷ []) ∙ ap (λ (w : _). map f (take t l) ++ (w ∷ [])) (sym ev))
 
 module _ (lim : Limits) (s : ℕ → Segment) (f : ℕ → List ℕ) where
   pub tables_few : (k : ℕ) → length (table_numbers lim s f k) ≤ k

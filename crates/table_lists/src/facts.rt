@@ -1,5 +1,5 @@
 // Which sets are tables, what is found of each, and the free list.
-ghost use Rattle.std.specs.Prelude.{◌≡◌, ◌*◌, ◌<◌, ◌≤◌, ◌^◌, length, take};
+ghost use Rattle.std.specs.Prelude.{◌≡◌, ◌*◌, ◌<◌, ◌≤◌, length, take};
 ghost use Rattle.listings.specs.Listed.{set_of};
 ghost use Rattle.rects.specs.Around.{around};
 ghost use Rattle.meeting.specs.Segments.{ruling};
@@ -43,6 +43,7 @@ pub fn choose(
 {
     // Opened for the proof: at most 4,096 are chosen.
     let _ = &rulings.chosen;
+    // The number of tables steps by hand, since only what is listed counts.
     let mut tables = 0;
     let mut at = 0;
     for k in 0..sets.count {
@@ -60,7 +61,8 @@ pub fn choose(
     Found { tables, free: at }
 }
 
-// The smallest rectangle around the rulings of a set.
+// The smallest rectangle around the rulings of a set: `rects::bounding` of their places, which stand in no list. A closure for the rectangle
+// at a place would be no plainer: both contracts speak of a list of rectangles and places in it.
 fn around_set(rulings: &Rulings, set: &[u32]) -> rects::Rect
     requires { IndexesBelow (length rulings.now.chosen) set.now × (0 < length set.now) }
     ensures { result ≡ around rulings.now.rects (places_of rulings.now.chosen set.now) }
@@ -72,8 +74,8 @@ fn around_set(rulings: &Rulings, set: &[u32]) -> rects::Rect
     r
 }
 
-// Writes the smallest rectangle around each table. Their number is given, since the front part of a lent list that is made where others are
-// lent loses its content in the proof.
+// Writes the smallest rectangle around each table. How many tables there are stands beside their numbers, since that list may be longer and
+// the caller can't hand its front part: where other lists are lent too, the proof no longer knows what such a part holds.
 pub fn bound(rulings: &Rulings, sets: &Sets, numbers: &[u32], tables: usize, out: &mut [u32])
     requires { SetsIn (length rulings.now.chosen) (set_of sets.now) sets.now.count
         × Numbers numbers.now tables sets.now.count × (4 * tables ≤ length out.old) }
@@ -86,10 +88,11 @@ pub fn bound(rulings: &Rulings, sets: &Sets, numbers: &[u32], tables: usize, out
     }
 }
 
-// Writes the number of rulings and the joined share of each table, whose number is given as in `bound`. The last three lists are lent to sort in, with a place a ruling each.
+// Writes how many rulings each table has, and their joined share. How many tables there are is given as in `bound`. The last three lists are
+// lent to sort in, with a place a ruling each.
 pub fn measure(
     rulings: &Rulings,
-    join: u64,
+    join: u32,
     sets: &Sets,
     numbers: &[u32],
     tables: usize,
@@ -99,7 +102,7 @@ pub fn measure(
     work: &mut [u32],
     keys: &mut [u64],
 )
-    requires join_bound { (join < 2 ^ 32) × SetsIn (length rulings.now.chosen) (set_of sets.now) sets.now.count × Numbers numbers.now tables sets.now.count }
+    requires given { SetsIn (length rulings.now.chosen) (set_of sets.now) sets.now.count × Numbers numbers.now tables sets.now.count }
     requires tables_in_bounds { (tables ≤ length sizes.old) × (tables ≤ length shares.old) }
     requires chosen_in_bounds { (length rulings.now.chosen ≤ length order.old) × (length rulings.now.chosen ≤ length work.old) × (length rulings.now.chosen ≤ length keys.old) }
     ensures { Measured join (ruling rulings.now)

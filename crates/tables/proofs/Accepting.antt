@@ -10,8 +10,6 @@ use Rattle.questions.specs.Questions.{first_missed}
 use Rattle.params.specs.declared.settings.RulingsParams.{RulingsParams}
 use Rattle.params.proofs.Limits.{limits}
 use Rattle.shapes.specs.declared.limits.Limits.{Limits}
-use Rattle.params.specs.Steps.{SettingsPassed}
-use Rattle.shapes.specs.Limits.{table_limits_of}
 use Rattle.meeting.specs.Steps as Meeting
 use Rattle.table_questions.specs.Lent.{Lists}
 use Rattle.tables.specs.Call.{Given, questions, places, table_limits, Tables}
@@ -19,16 +17,9 @@ use Rattle.tables.specs.Steps.{with_chosen, Filled, Roomy}
 use Rattle.tables.proofs.Demand.{demand3}
 use Rattle.tables.proofs.Passing.{passed}
 
--- passed questions bound the limits
-pub join_small : (p : RulingsParams) (xheight : Float) → SettingsPassed p xheight → (table_limits_of p xheight).join < 2 ^ 32
-join_small p xheight S = omega (arith, (limits p xheight S).join.at_most)
-
 -- all rulings are chosen
 pub all_chosen : (n : ℕ) (c : List ℕ) {c' : List ℕ} → c' ≡ written (below n) c → take n c' ≡ below n
 all_chosen n c e = ap (take n) e ∙ take_at (below n) (drop (length (below n)) c) n (length_below n)
-
-pub join_of : (p : RulingsParams) (xheight : Float) {lim : Limits} → lim ≡ table_limits_of p xheight → SettingsPassed p xheight → lim.join < 2 ^ 32
-join_of p xheight e S = rw e (join_small p xheight S)
 
 pub given_all : {rects directions : List ℕ} (n : ℕ) (c : List ℕ) {c' : List ℕ} → c' ≡ written (below n) c → Meeting.Given rects directions (below n) → Meeting.Given rects directions (take n c')
 given_all n c e G = rw (all_chosen n c e) G

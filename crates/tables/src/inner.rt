@@ -1,5 +1,5 @@
 // Tables and free rulings among the chosen ones: the core, which asks for what the questions show.
-ghost use Rattle.std.specs.Prelude.{◌^◌, ◌<◌, length};
+ghost use Rattle.std.specs.Prelude.{length};
 ghost use Rattle.table_questions.specs.Lent.{lists_of, Same};
 ghost use Rattle.tables.specs.Steps.{Filled, Roomy};
 
@@ -20,8 +20,7 @@ pub struct Counts {
 
 // Lists the closed sets of the chosen rulings, and of them the tables with their facts, and the free list.
 pub fn find(rulings: &Rulings, limits: Limits, lists: &mut Lists) -> Counts
-    requires join_bound { limits.join < 2 ^ 32 }
-    requires roomy { Roomy (length rulings.now.chosen) (lists_of lists.old) }
+    requires { Roomy (length rulings.now.chosen) (lists_of lists.old) }
     ensures filled { Filled rulings.now.rects rulings.now.directions rulings.now.chosen limits
         (lists_of lists.old) (lists_of lists.new) result.sets result.tables result.free }
     ensures same { Same lists.old lists.new }

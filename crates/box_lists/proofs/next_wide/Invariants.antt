@@ -1,4 +1,4 @@
--- `write::next_wide` meets its contract: every glyph box from `from` up to k is narrower.
+-- `next_wide` meets its contract: every glyph box from `from` up to k is narrower.
 use mathlib.Core.List.{List}
 use Prim.Native.Nat.{ℕ, ◌-◌, ◌≤◌, ◌<◌}
 use Rattle.rects.specs.Rects.{count, rect_at, width_of}

@@ -1,4 +1,6 @@
 -- `boxes::boxes` meets its contract: where no question is missed, the core finds the boxes.
+use Rattle.std.proofs.Common.{rules}
+use Rattle.box_lists.specs.Steps.{lists_of}
 use Rattle.boxes.specs.Call.{Given, Lent}
 use Rattle.boxes.proofs.Accepted.{accepted_ready}
 use Rattle.boxes.proofs.Call.{accepted}
@@ -20,4 +22,6 @@ find-count-requires c =
 
 pub returns : goal.returns
 returns c =
-    let s = (goal.at.returns c).Start in accepted (given s) (lent s) c.in_default.ensures _ c.limits_of-l.ensures c.find-count.ensures
+    let s = (goal.at.returns c).Start in
+    let A = accepted (given s) (lent s) c.in_default.ensures (lists_of c.find-count.new.lists) c.limits_of-l.ensures c.find-count.ensures.made in
+    search rules

@@ -1,6 +1,7 @@
 -- `detect` meets its contract: the questions decide, and then the page is read.
-use Rattle.std.proofs.Common.{sym}
+use Rattle.std.proofs.Common.{sym, ap, ◌∙◌}
 use Rattle.page.specs.Lent.{lent}
+use Rattle.page.specs.Answer.{refusal}
 use Rattle.questions.proofs.Numbers.{some_number}
 use Rattle.read_page.proofs.Known.{known}
 use Rattle.detect.proofs.Finds.{room_of, counted, ready, finish}
@@ -10,7 +11,7 @@ use Rattle.detect.proofs.detect.Goals as goal
 pub returns-in-Err-clause-detected : goal.returns-in-Err-clause-detected
 returns-in-Err-clause-detected c =
     let a = c.args in
-    refused a.page.now (lent a.rules.now a.marks.now a.found.now) c.refused.ensures c.in-Err.ensures (some_number c.in-Err.question)
+    refused a.page.now (lent a.rules.now a.marks.now a.found.now) (c.refused.ensures ∙ ap refusal c.number.ensures) c.in-Err.ensures (some_number c.in-Err.question)
 
 pub read-ruled-requires : goal.read-ruled-requires
 read-ruled-requires c =

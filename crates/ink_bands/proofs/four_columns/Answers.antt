@@ -25,13 +25,13 @@ whole ink r i e f t = rw (f, e) at t
 
 -- column i + d at the head of a turn
 here : (c : In-loop-j) (d : ℕ) {n x : ℕ} → d < 4
-    → let a = c.args in
-    x ≡ a.r.x0 + (a.i + d) → Tally (inked a.mask.now) x a.r.y0 c.loop-j.j n
-    → ((a.r.y0 + c.loop-j.j) * a.mask.now.w + x < length a.mask.now.bytes) × (n < 8192)
+    → let s = c.r.inside in
+    x ≡ s.rect.x0 + (c.args.i + d) → Tally (inked s.mask.now) x s.rect.y0 c.loop-j.j n
+    → ((s.rect.y0 + c.loop-j.j) * s.mask.now.w + x < length s.mask.now.bytes) × (n < 8192)
 here c d h e t =
-    let a = c.args in
-    let p = c.requires in
-    fits a.mask.now a.r (a.i + d) p.0 (omega (arith, p.1)) (omega (arith, c.height-rows.ensures)) e t
+    let s = c.r.inside in
+    let p = rw (← c.r.view_is) at c.requires in
+    fits s.mask.now s.rect (c.args.i + d) c.r.invariant (omega (arith, p)) (omega (arith, c.height-rows.ensures)) e t
 
 pub counted-a-requires : goal.counted-a-requires
 counted-a-requires c = here c 0 (omega arith) (omega arith) c.loop-j.invariant.0
@@ -47,23 +47,24 @@ counted-d-requires c = here (goal.at.counted-d-requires c).In-loop-j 3 (omega ar
 
 pub loop-j-preserved : goal.loop-j-preserved
 loop-j-preserved c =
-    let a = c.args in
-    let ink = inked a.mask.now in
-    let x = a.r.x0 + a.i in (
-      c.counted-a.ensures ∙ many_next (λ k. ink x (a.r.y0 + k)) c.loop-j.j c.loop-j.invariant.0 refl,
-      c.counted-b.ensures ∙ many_next (λ k. ink (x + 1) (a.r.y0 + k)) c.loop-j.j c.loop-j.invariant.1 refl,
-      c.counted-c.ensures ∙ many_next (λ k. ink (x + 2) (a.r.y0 + k)) c.loop-j.j c.loop-j.invariant.2 refl,
-      c.counted-d.ensures ∙ many_next (λ k. ink (x + 3) (a.r.y0 + k)) c.loop-j.j c.loop-j.invariant.3 refl,
+    let s = c.r.inside in
+    let ink = inked s.mask.now in
+    let x = s.rect.x0 + c.args.i in (
+      c.counted-a.ensures ∙ many_next (λ k. ink x (s.rect.y0 + k)) c.loop-j.j c.loop-j.invariant.0 refl,
+      c.counted-b.ensures ∙ many_next (λ k. ink (x + 1) (s.rect.y0 + k)) c.loop-j.j c.loop-j.invariant.1 refl,
+      c.counted-c.ensures ∙ many_next (λ k. ink (x + 2) (s.rect.y0 + k)) c.loop-j.j c.loop-j.invariant.2 refl,
+      c.counted-d.ensures ∙ many_next (λ k. ink (x + 3) (s.rect.y0 + k)) c.loop-j.j c.loop-j.invariant.3 refl,
     )
 
 pub returns : goal.returns
 returns c =
-    let a = c.args in
+    let s = c.r.inside in
+    let i = c.args.i in
     let v = c.loop-j.invariant in
-    let end : c.loop-j.j ≡ height_of a.r = omega (arith, c.height-rows.ensures) in
-    let ink = inked a.mask.now in
-    let first = whole ink a.r a.i end refl v.0 in
-    let second = whole ink a.r (a.i + 1) end (omega arith) v.1 in
-    let third = whole ink a.r (a.i + 2) end (omega arith) v.2 in
-    let fourth = whole ink a.r (a.i + 3) end (omega arith) v.3 in
-    cc
+    let end : c.loop-j.j ≡ height_of s.rect = omega (arith, c.height-rows.ensures) in
+    let ink = inked s.mask.now in
+    let first = whole ink s.rect i end refl v.0 in
+    let second = whole ink s.rect (i + 1) end (omega arith) v.1 in
+    let third = whole ink s.rect (i + 2) end (omega arith) v.2 in
+    let fourth = whole ink s.rect (i + 3) end (omega arith) v.3 in
+    rw (← c.r.view_is) cc

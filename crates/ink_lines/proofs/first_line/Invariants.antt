@@ -14,4 +14,4 @@ abbrev pub test : Mask → Rect → Lines → Float → ℕ → Bool
 test m r lines limit k = over limit (line_ink (inked m) r lines k)
 
 abbrev pub invariant-loop-k : goal.invariant-loop-k
-invariant-loop-k l = first_from (test l.mask l.r l.lines l.limit) l.k (l.n - l.k) ≡ first_place (test l.mask l.r l.lines l.limit) l.n
+invariant-loop-k l = first_from (test l.r.mask l.r.rect l.lines l.limit) l.k (l.n - l.k) ≡ first_place (test l.r.mask l.r.rect l.lines l.limit) l.n

@@ -14,4 +14,4 @@ abbrev pub test : Mask → Rect → Lines → Float → ℕ → Bool
 test m r lines limit k = over limit (line_ink (inked m) r lines k)
 
 abbrev pub invariant-loop-k : goal.invariant-loop-k
-invariant-loop-k l = last_end (test l.mask l.r l.lines l.limit) l.k ≡ last_end (test l.mask l.r l.lines l.limit) l.end
+invariant-loop-k l = last_end (test l.r.mask l.r.rect l.lines l.limit) l.k ≡ last_end (test l.r.mask l.r.rect l.lines l.limit) l.end

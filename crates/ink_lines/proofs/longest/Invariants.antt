@@ -14,4 +14,4 @@ abbrev pub test : Mask → Rect → Lines → ℕ → Bool
 test m r lines k = ltb 0 (line_ink (inked m) r lines k)
 
 abbrev pub invariant-loop-k : goal.invariant-loop-k
-invariant-loop-k l = (l.run ≡ run_before (test l.mask l.r l.lines) l.k) × (l.best ≡ longest_run (test l.mask l.r l.lines) l.k)
+invariant-loop-k l = (l.run ≡ run_before (test l.r.mask l.r.rect l.lines) l.k) × (l.best ≡ longest_run (test l.r.mask l.r.rect l.lines) l.k)

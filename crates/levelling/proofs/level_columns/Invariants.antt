@@ -1,4 +1,4 @@
--- `levelling::level_columns` meets its contract: the columns are levelled in the rows from y0 up to y.
+-- `levelling::level_columns` meets its contract: the columns are levelled in the rows from the first up to y.
 use Rattle.layout.specs.Tables.{entry}
 use Rattle.shear_runs.specs.Steps.{Columns}
 use Rattle.layout.specs.Steps.{shears_of}
@@ -6,4 +6,4 @@ use Rattle.levelling.specs.Steps.{LevelledArea}
 use Rattle.levelling.proofs.level_columns.Given as goal
 
 abbrev pub invariant-loop-y : goal.invariant-loop-y
-invariant-loop-y l = LevelledArea (shears_of l.shears) l.gray (Columns (entry l.shears.shear_x.now) l.from l.part.to) l.y0 l.y l.initial.out l.out
+invariant-loop-y l = LevelledArea (shears_of l.shears) l.gray (Columns (entry l.shears.shear_x.now) l.part.from l.part.to) l.fn.rows.from l.y l.initial.out l.out

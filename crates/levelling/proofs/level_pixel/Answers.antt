@@ -3,7 +3,6 @@ use mathlib.Core.Path.{sym}
 use mathlib.Core.Logic.{inl, inr}
 use native.Mathlib.Omega.{arith}
 use Rattle.layout.proofs.Shows.{column_on, column_off}
-use Rattle.levelling.proofs.level_pixel.Goals.{Else-sides-row}
 use Rattle.levelling.proofs.level_pixel.Goals as goal
 
 pub returns-then-y-down : goal.returns-then-y-down

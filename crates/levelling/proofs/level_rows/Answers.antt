@@ -7,4 +7,4 @@ use Rattle.levelling.proofs.level_rows.Goals as goal
 pub returns : goal.returns
 returns c =
     let a = c.args in
-    band_whole (shears_of a.shears.now) a.gray.now a.y0 a.y1 c.loop-x.x (omega (arith, c.loop-x-test.false, c.requires.0.sheared.columns.long)) c.pad_rows.ensures c.loop-x.invariant.1
+    band_whole (shears_of a.shears.now) a.gray.now a.rows.from a.rows.to c.loop-x.x (omega (arith, c.loop-x-test.false, c.requires.0.sheared.columns.long)) c.pad_rows.ensures c.loop-x.invariant.1

@@ -8,7 +8,7 @@ use Rattle.levelling.specs.Steps.{LevelledArea}
 use Rattle.levelling.proofs.level_rows.Given as goal
 
 abbrev pub invariant-loop-x : goal.invariant-loop-x
-invariant-loop-x l = (l.x ≤ length l.shears.shear.now) × LevelledArea (shears_of l.shears) l.gray (Columns (entry l.shears.shear_x.now) 0 l.x) l.y0 l.y1 l.initial.out l.out
+invariant-loop-x l = (l.x ≤ length l.shears.shear.now) × LevelledArea (shears_of l.shears) l.gray (Columns (entry l.shears.shear_x.now) 0 l.x) l.rows.from l.rows.to l.initial.out l.out
 
 abbrev pub decreases-loop-x : goal.decreases-loop-x
 decreases-loop-x l = length l.shears.shear.now - l.x

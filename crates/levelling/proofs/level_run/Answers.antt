@@ -5,7 +5,6 @@ use Prim.Native.Nat.{ℕ, ◌+◌, ◌-◌, ◌*◌}
 use native.Mathlib.Omega.{arith}
 use lib.ListN.{length, take, drop}
 use Rattle.levelling.proofs.Paint.{off_page, on_page_lem}
-use Rattle.levelling.proofs.level_run.Goals.{Else-sides-row}
 use Rattle.levelling.proofs.level_run.Goals as goal
 
 pub returns-then-y-shear : goal.returns-then-y-shear

@@ -129,6 +129,7 @@ offset_bounds-ends-count c = omega (arith, counted (turn_at (goal.at.offset_boun
 pub bounds-ends-count : goal.bounds-ends-count
 bounds-ends-count c = omega (arith, counted (turn_at (goal.at.bounds-ends-count c).In-loop-root))
 
+-- that the count fits is not found alone: it is at most the roots before
 pub overflow_add-count : goal.overflow_add-count
 overflow_add-count c = omega (arith, counted (turn_at (goal.at.overflow_add-count c).In-loop-root))
 

@@ -1,38 +1,29 @@
--- `rects::all_inside` meets its contract: every rectangle below k is inside, and one that is not decides.
+-- `rects::all_inside` meets its contract: whether every rectangle below k is inside.
 use mathlib.Core.Path.{◌≡◌, refl, sym, ap, ap₂, ◌∙◌}
-use mathlib.Core.Bool.{Bool, true, ◌&&◌}
-use mathlib.Core.List.{List}
-use Prim.Native.Nat.{ℕ, ◌+◌}
+use mathlib.Core.Bool.{◌&&◌}
+use Prim.Native.Nat.{ℕ, suc, ◌+◌, ◌-◌, ◌*◌, ◌<◌, min}
+use native.Mathlib.Omega.{arith}
+use lib.Dec.{leb, ltb}
+use Rattle.std.proofs.lemmas.Bool.Decides.{leb_tells}
 use Rattle.lists.specs.Lists.{every_below}
-use Rattle.lists.proofs.Every.{every_more, every_fails}
-use Rattle.rects.specs.Rects.{count, inside, rect_at}
+use Rattle.lists.proofs.Every.{every_more}
 use Rattle.rects.specs.declared.Rect.{Rect}
+use Rattle.rects.specs.Rects.{inside, rect_at}
 use Rattle.rects.proofs.all_inside.Goals as goal
 
--- nothing passed yet, and one rectangle more
-none : (q : ℕ → Bool) → every_below 0 q ≡ true
-unfolding every_below
-none q = refl
-
--- the test of one rectangle, as it was read
-asked : (w h k : ℕ) (rects : List ℕ) {t : Bool} {r : Rect} → t ≡ inside w h r → r ≡ rect_at rects k → t ≡ inside w h (rect_at rects k)
-asked w h k rects f g = f ∙ ap (inside w h) g
-
-more : (w h k : ℕ) (rects : List ℕ) {t : Bool} → every_below k (λ j. inside w h (rect_at rects j)) ≡ true → t ≡ inside w h (rect_at rects k) → t ≡ true
-    → every_below (k + 1) (λ j. inside w h (rect_at rects j)) ≡ true
-more w h k rects e f g = every_more k (λ j. inside w h (rect_at rects j)) ∙ ap₂ ◌&&◌ e (sym f ∙ g)
+-- a number lies before n where there is a place and the number is at most the last one
+before : (x n last : ℕ) → x < 4294967296 → last ≡ min (n - 1) 4294967295 → ltb 0 n && leb x last ≡ ltb x n
+before x n last l e = grind (arith, leb_tells (suc 0) n, leb_tells x last, leb_tells (suc x) n, l, e)
 
 pub loop-k-init : goal.loop-k-init
-loop-k-init c = none _
-
-pub returns-then-not-is_inside : goal.returns-then-not-is_inside
-returns-then-not-is_inside c =
-    let a = c.args in
-    sym (every_fails (count a.rects.now) (λ j. inside a.w a.h (rect_at a.rects.now j)) c.loop-k.k c.loop-k-test.true
-    (sym (asked a.w a.h c.loop-k.k a.rects.now c.is_inside.ensures c.rect_at.ensures) ∙ c.if-not-is_inside.true))
+unfolding every_below
+loop-k-init c = refl
 
 pub loop-k-preserved : goal.loop-k-preserved
 loop-k-preserved c =
     let a = c.args in
-    more a.w a.h c.loop-k.k a.rects.now c.loop-k.invariant
-    (asked a.w a.h c.loop-k.k a.rects.now c.is_inside.ensures c.rect_at.ensures) c.if-not-is_inside.false
+    let r = c.rect_at-r.result in
+    let right = before r.x1 a.w c.last-right.result (omega (arith, ap (λ (q : Rect). q.x1) c.rect_at-r.ensures, c.type_inv.rects (4 * c.loop-k.k + 2))) c.last-right.ensures in
+    let bottom = before r.y1 a.h c.last-bottom.result (omega (arith, ap (λ (q : Rect). q.y1) c.rect_at-r.ensures, c.type_inv.rects (4 * c.loop-k.k + 3))) c.last-bottom.ensures in
+    let test = ap₂ (λ x y. leb r.x0 r.x1 && leb r.y0 r.y1 && x && y) right bottom in
+    ap₂ ◌&&◌ c.loop-k.invariant (test ∙ ap (inside a.w a.h) c.rect_at-r.ensures) ∙ sym (every_more c.loop-k.k (λ j. inside a.w a.h (rect_at a.rects.now j)))

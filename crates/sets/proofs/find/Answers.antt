@@ -1,9 +1,9 @@
 -- `sets::find` meets its contract: every turn halves the path and keeps every root, and stands at an index with the root that is looked for.
 use mathlib.Core.Path.{◌≡◌, refl, sym, ap, ◌∙◌}
 use mathlib.Core.List.{List}
-use Prim.Native.Nat.{ℕ, ◌≤◌, ◌<◌, ◌^◌}
+use Prim.Native.Nat.{ℕ, ◌≤◌, ◌<◌}
 use native.Mathlib.Omega.{arith}
-use lib.ListN.{length, get_or, set, length-set}
+use lib.ListN.{get_or, set, length-set}
 use Rattle.sets.specs.Steps.{root, Found}
 use Rattle.sets.proofs.Roots.{root_parent, root_stays, halved, same_trans}
 use Rattle.sets.proofs.find.Invariants.{Climbing}
@@ -26,13 +26,6 @@ turn {n} {p} {index} {q} {i} {up} C =
       on_way = sym (C.same.roots (get_or q up 0) v<n) ∙ v-root ∙ C.same.roots i l ∙ C.on_way;
       long = length-set q i (get_or q up 0) ∙ C.long;
     }
-
-record Bounds (n : ℕ) (q : List ℕ) (i up : ℕ) : Type 0 where
-  low : up ≤ i
-  lower : get_or q up 0 ≤ up
-  inside : i < n
-  room : n ≤ length q
-  small : n < 2 ^ 32
 
 done : {n : ℕ} {p : List ℕ} {index : ℕ} {q : List ℕ} {i up : ℕ} → Climbing n p index q i up → up ≡ i → Found n p index q i
 done {n} {p} {index} {q} {i} C e =

@@ -1,4 +1,4 @@
--- `unlevelling::unlevel_run` meets its contract: in the rows from y0 up to y the run is back.
+-- `unlevelling::unlevel_run` meets its contract: in the rows from the first up to y the run is back.
 use mathlib.Core.Path.{refl, ◌∙◌}
 use Prim.Native.Nat.{◌+◌, ◌-◌, ◌*◌, ◌<◌}
 use native.Mathlib.Omega.{arith}
@@ -17,8 +17,8 @@ slice_bounds-copy_from_slice-end-in-loop-y c =
     let pre = c.requires in
     let y = c.loop-y.y in
     let in_page : y < S.sides.ph = omega (arith, c.loop-y-test.true, pre.1.1.1) in
-    let start = c.place_of-start.ensures ∙ place_below S a.level.now pre.0 a.from y c.down-down.result c.down-down.ensures in
-    omega (arith, start, run_within S a.level.now pre.0 c.loop-y.out (c.loop-y.invariant.long ∙ pre.1.0) y in_page a.from a.to pre.1.1.0)
+    let start = c.place_of-start.ensures ∙ place_below S a.level.now pre.0 a.part.from y c.down-down.result c.down-down.ensures in
+    omega (arith, start, run_within S a.level.now pre.0 c.loop-y.out (c.loop-y.invariant.long ∙ pre.1.0) y in_page a.part.from a.part.to pre.1.1.0)
 
 pub loop-y-preserved : goal.loop-y-preserved
 loop-y-preserved c =
@@ -27,9 +27,9 @@ loop-y-preserved c =
     let pre = c.requires in
     let y = c.loop-y.y in
     let in_page : y < S.sides.ph = omega (arith, c.loop-y-test.true, pre.1.1.1) in
-    let start = c.place_of-start.ensures ∙ place_below S a.level.now pre.0 a.from y c.down-down.result c.down-down.ensures in
-    let s = y * S.sides.pw + a.from in
-    let n = y * S.sides.pw + a.to - s in
-    let m = c.place_of-start.result + (a.to - a.from) - c.place_of-start.result in
-    let written = run_shows S a.level.now pre.0 c.loop-y.out (c.loop-y.invariant.long ∙ pre.1.0) y in_page a.from a.to pre.1.1.0 s n m c.place_of-start.result refl (omega arith) (omega arith) start in
-    rows_then S.sides.pw (pixel_in S.sides a.level.now S.shear S.shear_x) (PageColumns a.from a.to) a.y0 y (y + 1) c.loop-y.invariant (rw c.copy_from_slice.ensures.after written)
+    let start = c.place_of-start.ensures ∙ place_below S a.level.now pre.0 a.part.from y c.down-down.result c.down-down.ensures in
+    let s = y * S.sides.pw + a.part.from in
+    let n = y * S.sides.pw + a.part.to - s in
+    let m = c.place_of-start.result + (a.part.to - a.part.from) - c.place_of-start.result in
+    let written = run_shows S a.level.now pre.0 c.loop-y.out (c.loop-y.invariant.long ∙ pre.1.0) y in_page a.part.from a.part.to pre.1.1.0 s n m c.place_of-start.result refl (omega arith) (omega arith) start in
+    rows_then S.sides.pw (pixel_in S.sides a.level.now S.shear S.shear_x) (PageColumns a.part.from a.part.to) a.rows.from y (y + 1) c.loop-y.invariant (rw c.copy_from_slice.ensures.after written)

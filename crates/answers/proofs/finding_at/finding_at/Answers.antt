@@ -4,7 +4,4 @@ use Rattle.answers.specs.FindingAt.{of_row, answer_of}
 use Rattle.answers.proofs.finding_at.finding_at.Goals as goal
 
 pub returns-in-Some : goal.returns-in-Some
-returns-in-Some c = c.of_row.ensures ∙ ap (of_row 1) c.row_of.ensures ∙ ap answer_of (sym c.in-Some.is ∙ c.finding_at-answer.ensures)
-
-pub returns-in-None : goal.returns-in-None
-returns-in-None c = c.nothing.ensures ∙ ap answer_of (sym c.in-None.is ∙ c.finding_at-answer.ensures)
+returns-in-Some c = c.from-in-Some.ensures ∙ ap (of_row 1) c.from.ensures ∙ ap answer_of (sym c.in-Some.is ∙ c.finding_at-answer.ensures)

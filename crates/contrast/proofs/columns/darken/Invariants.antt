@@ -3,4 +3,4 @@ use Rattle.contrast.proofs.Lines.{DarkenedTo}
 use Rattle.contrast.proofs.columns.darken.Given as goal
 
 abbrev pub invariant-loop-i : goal.invariant-loop-i
-invariant-loop-i l = DarkenedTo l.pixels l.start l.i l.initial.least l.least
+invariant-loop-i l = DarkenedTo l.row l.i l.initial.least l.least

@@ -20,6 +20,7 @@ bytes c =
     let start = c.args in
     rw c.sum_of_part-sum.ensures (columns_le start.raster.now.pixels (start.start + c.loop-i.i) c.min-part.result start.rows start.raster.now.w)
 
+-- stands here since the check alone doesn't know that a part's sum is at most 255 a column
 pub overflow_add-sum : goal.overflow_add-sum
 overflow_add-sum c = omega (arith, bytes c, parts (goal.at.overflow_add-sum c).After-min-part, c.requires.0)
 

@@ -13,4 +13,4 @@ darken_rows-requires c = (c.requires.0, c.requires.1, λ i l. get_or-replicate 2
 pub returns : goal.returns
 returns c =
     let start = c.args in
-    c.sum_of.ensures ∙ columns_sum start.raster.now.pixels start.start start.n start.rows start.raster.now.w c.darken_rows.new.least c.darken_rows.ensures
+    c.sum_of.ensures ∙ columns_sum start.raster.now.pixels start.start start.n start.rows start.raster.now.w c.darken_rows.new.least (omega (arith, c.requires.0, c.darken_rows.auto.least)) c.darken_rows.ensures

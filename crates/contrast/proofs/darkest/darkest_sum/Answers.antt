@@ -1,32 +1,23 @@
 -- `contrast::darkest::darkest_sum` meets its contract: a ruling's pixels across it are lines of the raster.
 use mathlib.Core.Path.{◌∙◌}
-use Prim.Native.Nat.{◌+◌, ◌*◌, ◌^◌, ◌<◌}
+use Prim.Native.Nat.{◌+◌, ◌*◌}
 use native.Mathlib.Omega.{arith}
-use native.Mathlib.Nat.{mul-le-mul, lt_of_le_of_lt}
-use lib.Dec.{lit<}
 use Rattle.rects.specs.declared.Rect.{Rect}
 use Rattle.rects.specs.Rects.{width_of, height_of}
 use Rattle.paper.specs.Pixels.{Raster}
 use Rattle.paper.specs.Steps.{OnPicture}
-use Rattle.paper.proofs.Pixels.{row_inside}
 use Rattle.contrast.specs.Steps.{RowsInside}
 use Rattle.contrast.proofs.Lines.{rows_inside, horizontal_sum, vertical_sum}
 use Rattle.contrast.proofs.darkest.darkest_sum.Goals as goal
 
 module _ {raster : Raster} {r : Rect} (on : OnPicture raster r) where
-  -- the first pixel lies in the raster, which is small
-  first : r.y0 * raster.w + r.x0 + 8192 < 2 ^ 32
-  first =
-      let fits : raster.w * raster.h < 2 ^ 27 = lt_of_le_of_lt (mul-le-mul on.narrow on.low) (lit< tt) in
-      omega (arith, row_inside raster.w raster.h r.x0 r.y0 1 (omega (arith, on.inside.wide, on.inside.right)) (omega (arith, on.inside.high, on.inside.bottom)), fits)
-
   rows : RowsInside raster.pixels (r.y0 * raster.w + r.x0) (width_of r) (height_of r) raster.w
   rows = rows_inside raster.pixels raster.w raster.h r.x0 r.y0 (width_of r) (height_of r) on.full (omega (arith, on.inside.wide, on.inside.right)) (omega (arith, on.inside.high, on.inside.bottom))
 
 pub sum_of_columns-requires : goal.sum_of_columns-requires
 sum_of_columns-requires c =
     let on = rw (← c.raster.view_is) at c.requires in
-    rw (← c.raster.view_is, c.width-columns.ensures, c.height-rows.ensures) (omega (arith, on.narrow, on.inside.wide, on.inside.right), omega arith, omega (arith, first on, on.narrow, on.inside.wide, on.inside.right), rows on)
+    rw (← c.raster.view_is, c.width-columns.ensures, c.height-rows.ensures) (omega (arith, on.narrow, on.inside.wide, on.inside.right), omega arith, rows on)
 
 pub returns-then-horizontal : goal.returns-then-horizontal
 returns-then-horizontal c =

@@ -1,5 +1,6 @@
 -- `connect::connect` meets its contract: the roots of all joined pairs are the closed sets. The order of the rulings, which stood in the member list, is
 -- written over, since every index is a member.
+use Rattle.std.proofs.Common.{rules}
 use mathlib.Core.Path.{◌≡◌, ap, ◌∙◌}
 use mathlib.Core.List.{List}
 use Prim.Native.Nat.{ℕ}
@@ -14,8 +15,9 @@ use Rattle.sets.proofs.Sizes.{classes_total, classes_room}
 use Rattle.meeting.specs.declared.segment.Segment.{Segment}
 use Rattle.meeting.specs.Segments.{ruling}
 use Rattle.meeting.specs.Meeting.{touch, Touch}
-use Rattle.crossings.specs.Steps.{Connected}
+use Rattle.crossings.specs.Steps.{RulingsKeyed, Connected}
 use Rattle.sorted.proofs.Arranged.{written_over}
+use Rattle.crossings.proofs.connect.connect.Goals.{After-arrange_by}
 use Rattle.crossings.proofs.connect.connect.Goals as goal
 
 listed : (join : ℕ) (s : ℕ → Segment) {n : ℕ} {q m e q' m' e' : List ℕ} {c : ℕ} (m₀ : List ℕ) → Joins n (Below n) (Touch join s) q → drop n m ≡ drop n m₀
@@ -30,6 +32,14 @@ listed join s {n} {q} {m} {e} m₀ J kept L =
       total = rw same at (classes_room n (root q) J.roots.fixed);
     }
 
+keyed : (c : After-arrange_by) → RulingsKeyed (ruling c.args.rulings.now) c.len-n.result c.arrange_by.new.keys
+keyed c i l = let p = c.arrange_by.ensures.keyed i l in search rules
+
+pub join_all-requires : goal.join_all-requires
+join_all-requires c =
+    let K = keyed (goal.at.join_all-requires c).After-arrange_by in
+    (record { keyed = rw c.len-n.ensures.0 at K; ordered = rw c.len-n.ensures.0 at c.arrange_by.ensures.ordered }, search rules)
+
 pub returns : goal.returns
 returns c =
-    listed c.args.join (ruling c.args.rulings.now) c.args.members.now c.join_all.ensures (rw c.len.ensures.0 at c.arrange.ensures.1) (rw c.len-2.ensures.0 at c.list.ensures)
+    listed c.args.join (ruling c.args.rulings.now) c.args.members.now c.join_all.ensures (rw c.len-n.ensures.0 at c.arrange_by.ensures.kept) (rw c.len-n.ensures.0 at c.list.ensures)

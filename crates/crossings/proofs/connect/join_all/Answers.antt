@@ -7,7 +7,7 @@ use Rattle.crossings.proofs.connect.join_all.Goals as goal
 
 pub loop-i-init : goal.loop-i-init
 loop-i-init c =
-    rw (c.begin.ensures, c.len-n.ensures.0) (none_tried c.args.join (ruling c.args.rulings.now) (length c.args.rulings.now.chosen) c.requires.2)
+    rw (c.begin.ensures, c.len-n.ensures.0) (none_tried c.args.join (ruling c.args.rulings.now) (length c.args.rulings.now.chosen) c.requires.1)
 
 pub returns : goal.returns
 returns c =

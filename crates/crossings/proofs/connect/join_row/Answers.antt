@@ -12,12 +12,12 @@ returns-then-b c =
 
 pub loop-k-init : goal.loop-k-init
 loop-k-init c =
-    begun c.args.join (ruling c.args.rulings.now) (length c.args.rulings.now.chosen) c.args.keys.now c.args.order.now (centre_small c.len-n.ensures.1) c.requires.join_bound.1 c.at-b.ensures c.if-b.false c.last_key.ensures (rw c.len-n.ensures.0 at c.first_at_least-past.ensures) c.first_key.ensures (rw c.len-n.ensures.0 at c.first_at_least-first.ensures) c.requires.joins
+    begun c.args.join (ruling c.args.rulings.now) (length c.args.rulings.now.chosen) c.args.keys.now c.args.order.now (centre_small c.len-n.ensures.1) c.requires.ordered.0 c.at-b.ensures c.if-b.false c.last_key.ensures (rw c.len-n.ensures.0 at c.first_at_least-past.ensures) c.first_key.ensures (rw c.len-n.ensures.0 at c.first_at_least-first.ensures) c.requires.joins
 
 pub loop-k-preserved : goal.loop-k-preserved
 loop-k-preserved c =
-    turn c.args.join (ruling c.args.rulings.now) (length c.args.rulings.now.chosen) c.args.keys.now c.args.order.now (centre_small c.len-n.ensures.1) c.requires.join_bound.1 c.loop-k.invariant c.requires.join_bound.2 c.loop-k.auto.k c.loop-k-test.true c.join_held.ensures
+    turn c.args.join (ruling c.args.rulings.now) (length c.args.rulings.now.chosen) c.args.keys.now c.args.order.now (centre_small c.len-n.ensures.1) c.requires.ordered.0 c.loop-k.invariant c.requires.ordered.1 c.loop-k.auto.k c.loop-k-test.true c.join_held.ensures
 
 pub returns : goal.returns
 returns c =
-    done c.args.join (ruling c.args.rulings.now) (length c.args.rulings.now.chosen) c.args.keys.now c.args.order.now (centre_small c.len-n.ensures.1) c.requires.join_bound.1 c.loop-k.invariant c.loop-k-test.false
+    done c.args.join (ruling c.args.rulings.now) (length c.args.rulings.now.chosen) c.args.keys.now c.args.order.now (centre_small c.len-n.ensures.1) c.requires.ordered.0 c.loop-k.invariant c.loop-k-test.false

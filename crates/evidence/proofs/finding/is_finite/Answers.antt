@@ -24,6 +24,6 @@ pub returns : goal.returns
 unfolding finite_finding
 returns c =
     let f = c.args.f in
-    let row = c.row_of-row.ensures in
+    let row = c.from-row.ensures in
     ap₂ ◌&&◌ (c.finite_evidence.ensures ∙ ap (λ (r : Row). finite_evidence r.first) row) (c.finite_evidence-2.ensures ∙ ap (λ (r : Row). finite_evidence r.second) row)
     ∙ both_finite f f.kind

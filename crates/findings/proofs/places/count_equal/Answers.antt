@@ -1,44 +1,29 @@
--- `places::count_equal` meets its contract. The invariant: how many of the first i are the number.
-use mathlib.Core.Path.{◌≡◌, ap, ◌∙◌}
-use mathlib.Core.List.{List}
-use Prim.Native.Nat.{ℕ}
-use native.Mathlib.Omega.{arith}
+-- `places::count_equal` meets its contract: the chain goes through the places whose entry is the number.
+use Prim.Native.Nat.{ℕ, ◌<◌}
+use borrow.Author.Rules.{rules}
+use borrow.Author.Tests.{tests}
 use lib.Dec.{eqb}
 use lib.ListN.{length, get_or}
-use lib.Seq.{take_all}
-use borrow.Author.Rules.{scaled_Fits}
-use Rattle.lists.specs.Lists.{keep}
-use Rattle.findings.proofs.places.count_equal.Invariants.{Progress, another, begin, past}
-use Rattle.findings.proofs.places.count_equal.Goals.{then-numbers-place, else-numbers-place}
+use Rattle.std.proofs.lemmas.List.{get_or_default}
+use Rattle.std.proofs.lemmas.Iterator.{YieldsList-from_slice}
+use Rattle.std.proofs.lemmas.Iterator.Adapters.{serves_from_places}
+use Rattle.std.proofs.lemmas.Iterator.Consumers.{YieldsList-at, YieldsList-from_filter, count_from_yields_List}
 use Rattle.findings.proofs.places.count_equal.Goals as goal
 
-moved : {numbers places : List ℕ} {number count count' i : ℕ} → Progress numbers places number count i → count' ≡ count → Progress numbers places number count' i
-moved P e = rw e P
-
-pub loop-place-init : goal.loop-place-init
-loop-place-init c = begin c.args.numbers.now c.args.places.now c.args.number
-
-pub offset_bounds-numbers-place : goal.offset_bounds-numbers-place
-offset_bounds-numbers-place c = scaled_Fits (get_or c.args.places.now c.loop-place.place-index 0) (length c.args.numbers.now) 4 (c.requires.number c.loop-place.place-index c.loop-place-test.true) c.well_formed.0.1
-
-pub bounds-numbers-place : goal.bounds-numbers-place
-bounds-numbers-place c = c.requires.number c.loop-place.place-index c.loop-place-test.true
-
-pub overflow_add-count : goal.overflow_add-count
-overflow_add-count c = omega (arith, c.loop-place.invariant.low, c.loop-place-test.true, c.requires.few)
-
-pub loop-place-preserved : goal.loop-place-preserved
-loop-place-preserved c =
-    let a = c.args in
-    let P = c.loop-place.invariant in
-    let l = c.loop-place-test.true in
-    elim c.if-numbers-place.branch [
-      | then-numbers-place w ↦ moved (another a.numbers.now a.places.now a.number P l w.if-numbers-place.true) w.count-is
-      | else-numbers-place w ↦ moved (past a.numbers.now a.places.now a.number P l w.if-numbers-place.false) w.count-is
-    ]
+pub count-requires-clause-can : goal.count-requires-clause-can
+count-requires-clause-can c =
+    let places = c.args.places.now in (
+      tt,
+      tt,
+      serves_from_places (YieldsList-from_slice places cc) (λ x q r. search rules)
+          (λ x k l e.
+          let inside : x.now < length c.filter.result.p.0.now = rw (c.filter.ensures.closure, e, get_or_default places k x.now 0 l) (c.requires.number k l) in
+          λ y i. let here : y.now.now < length c.filter.result.p.0.now = rw i inside in (search rules, search rules)),
+    )
 
 pub returns : goal.returns
 returns c =
     let a = c.args in
-    c.loop-place.invariant.counted
-    ∙ ap (λ (t : List ℕ). length (keep (λ k. eqb (get_or a.numbers.now k 0) a.number) t)) (take_all c.loop-place.place-index a.places.now c.loop-place-test.false)
+    count_from_yields_List c.filter.result c.count.result c.count.ensures.ran
+    (YieldsList-from_filter _ (λ (k : ℕ). eqb (get_or a.numbers.now k 0) a.number) (YieldsList-at c.filter.ensures.source (YieldsList-from_slice a.places.now cc)) c.filter.ensures.closure
+    (λ x b q k. (search rules, search (rules, tests))))

@@ -19,20 +19,20 @@ past_last e h = omega arith
 
 pub loop-k-init : goal.loop-k-init
 loop-k-init c =
-    search_begin c.args.join (ruling c.args.rulings.now) c.args.set.now c.args.a c.args.end c.requires.2 (from_first c.first_key.ensures c.first_at_least-first.ensures)
+    search_begin c.args.join (ruling c.args.rulings.now) c.args.set.now c.args.a c.args.end c.requires.1 (from_first c.first_key.ensures c.first_at_least-first.ensures)
 
 pub returns-then-last-keys : goal.returns-then-last-keys
 returns-then-last-keys c =
-    search_stop c.args.join (ruling c.args.rulings.now) c.args.set.now c.args.a c.args.end c.requires.2 c.loop-k.invariant c.loop-k-test.true (past_last c.last_key-last.ensures c.if-last-keys.true)
+    search_stop c.args.join (ruling c.args.rulings.now) c.args.set.now c.args.a c.args.end c.requires.1 c.loop-k.invariant c.loop-k-test.true (past_last c.last_key-last.ensures c.if-last-keys.true)
 
 pub joined_by-requires : goal.joined_by-requires
 joined_by-requires c =
-    (c.requires.0, member_within c.args.set.now c.requires.1 (get_or c.args.order.now c.loop-k.k 0) (c.requires.2.ordered.known c.loop-k.k c.loop-k-test.true))
+    member_within c.args.set.now c.requires.0 (get_or c.args.order.now c.loop-k.k 0) (c.requires.1.ordered.known c.loop-k.k c.loop-k-test.true)
 
 pub returns-then-joined_by : goal.returns-then-joined_by
 returns-then-joined_by c =
-    search_found c.args.join (ruling c.args.rulings.now) c.args.set.now c.args.a c.args.end c.requires.2 c.loop-k-test.true (sym c.joined_by.ensures ∙ c.if-joined_by.true)
+    search_found c.args.join (ruling c.args.rulings.now) c.args.set.now c.args.a c.args.end c.requires.1 c.loop-k-test.true (sym c.joined_by.ensures ∙ c.if-joined_by.true)
 
 pub returns : goal.returns
 returns c =
-    search_end c.args.join (ruling c.args.rulings.now) c.args.set.now c.args.a c.args.end c.requires.2 c.loop-k.invariant c.loop-k-test.false
+    search_end c.args.join (ruling c.args.rulings.now) c.args.set.now c.args.a c.args.end c.requires.1 c.loop-k.invariant c.loop-k-test.false

@@ -10,7 +10,7 @@ loop-i-init c =
 
 pub joined_of-joined-requires : goal.joined_of-joined-requires
 joined_of-joined-requires c =
-    (c.requires.0, c.requires.1, c.requires.2, member_within c.args.set.now c.requires.1 c.loop-i.i-index c.loop-i-test.true)
+    (c.requires.0, c.requires.1, member_within c.args.set.now c.requires.0 c.loop-i.i-index c.loop-i-test.true)
 
 pub loop-i-preserved : goal.loop-i-preserved
 loop-i-preserved c =

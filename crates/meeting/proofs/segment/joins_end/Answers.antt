@@ -18,4 +18,4 @@ pub returns : goal.returns
 returns c =
     let a = c.args in
     let apart : c.abs_diff.result ≡ distance (2 * a.end) a.b.centre2 = omega (arith, c.abs_diff.ensures) in
-    parts a.join a.end a.a a.b c.requires.1 apart c.span_holds.ensures
+    rw c.from-3.ensures (parts a.join a.end a.a a.b c.requires apart c.span_holds.ensures)

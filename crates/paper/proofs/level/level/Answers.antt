@@ -26,9 +26,11 @@ next counts n half v at_least p l few down xs e t =
 pub loop-at_least-init : goal.loop-at_least-init
 loop-at_least-init c = (omega arith, λ xs e t. (brightest xs c.args.counts.now t, inl refl))
 
+-- that v is not below 1 is not found alone: all samples are at least 0
 pub overflow_sub-v : goal.overflow_sub-v
 overflow_sub-v c = positive c
 
+-- that the loop ends is not found alone, for the same reason
 pub loop-at_least-smaller : goal.loop-at_least-smaller
 loop-at_least-smaller c = omega (arith, positive (goal.at.loop-at_least-smaller c).In-loop-at_least)
 

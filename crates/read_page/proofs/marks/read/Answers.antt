@@ -2,26 +2,26 @@
 use mathlib.Core.Path.{refl}
 use Rattle.page.proofs.Fields.{page_of}
 use Rattle.read_page.proofs.Known.{known}
-use Rattle.read_page.proofs.Boxed.{boxes_ready, few, picture, boxes_still, grids_ready, gridded}
+use Rattle.read_page.proofs.Boxed.{boxes_ready, few, picture, grids_ready, gridded}
 use Rattle.read_page.proofs.Listed.{read_still, reading_still}
 use Rattle.read_page.proofs.marks.read.Goals as goal
 
-pub find-n-requires : goal.find-n-requires
-find-n-requires c =
+pub find_boxes-n-requires : goal.find_boxes-n-requires
+find_boxes-n-requires c =
     let R = rw (← c.page.view_is) at c.requires in
     rw c.limits_of-limits.ensures (boxes_ready (page_of c.page.inside) (known (page_of c.page.inside) R.given) _ R.room)
 
 pub find_grids-found-requires : goal.find_grids-found-requires
 find_grids-found-requires c =
     let R = rw (← c.page.view_is) at c.requires in
-    let M = rw c.limits_of-limits.ensures at c.find-n.ensures in
+    let M = rw c.limits_of-limits.ensures at c.find_boxes-n.ensures in
     grids_ready (page_of c.page.inside) (known (page_of c.page.inside) R.given) _ R.room M
 
 pub returns-clause-done : goal.returns-clause-done
 returns-clause-done c =
     let R = rw (← c.page.view_is) at c.requires in
     let K = known (page_of c.page.inside) R.given in
-    let M = rw c.limits_of-limits.ensures at c.find-n.ensures in
+    let M = rw c.limits_of-limits.ensures at c.find_boxes-n.ensures in
     let D = gridded (page_of c.page.inside) K _ R.room M c.find_grids-found.ensures in
     rw (← c.page.view_is)
     (record {

@@ -47,7 +47,7 @@ returns-clause-done c =
       free = F.free_count;
       levelled = c.level.ensures;
       answers = record { rects = L.rects; directions = L.directions; contrasts = L.contrasts; printed = S.printed; faint = S.faint; piece_members = L.members; piece_ends = L.ends; bounds = F.bounds; rows = F.rows; columns = F.columns; rulings = F.rulings; shares = F.shares; free = F.free; printed_members = F.members; printed_ends = F.ends; numbers = F.numbers };
-      pieces_read = read_still refl refl L.count L.made.read;
+      pieces_read = read_still refl refl L.count L.read;
       printed_read = read_still refl refl F.set_count F.read;
       near = near (page_of c.page.inside) K _ R.room L L.contrasts;
       work_long = record { parents = c.find_tables-found.auto.parents ∙ c.connect-rulings.auto.parents; listed = c.connect-rulings.auto.listed; listed_ends = c.connect-rulings.auto.listed_ends; order = c.find_tables-found.auto.work ∙ c.connect-rulings.auto.order; keys = c.find_tables-found.auto.keys ∙ c.connect-rulings.auto.keys };

@@ -3,7 +3,7 @@ use mathlib.Core.Path.{◌≡◌}
 use mathlib.Core.List.{List, map}
 use Prim.Native.Nat.{ℕ}
 use lib.ListN.{length, get_or, take}
-use lib.Seq.{sets}
+use lib.Seq.{paste}
 use Rattle.reading_order.proofs.reading.put.Given as goal
 
 -- the members in the order of the places
@@ -11,4 +11,4 @@ abbrev pub ordered : List ℕ → List ℕ → List ℕ
 ordered s order = map (λ i. get_or s i 0) (take (length s) order)
 
 abbrev pub invariant-loop-k : goal.invariant-loop-k
-invariant-loop-k l = l.reading ≡ sets l.initial.reading l.at (take l.k (ordered l.set l.order))
+invariant-loop-k l = l.reading ≡ paste l.initial.reading l.at (ordered l.set l.order) l.k

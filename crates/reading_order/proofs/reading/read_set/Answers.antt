@@ -10,10 +10,10 @@ still h e = omega arith
 
 pub put-requires : goal.put-requires
 put-requires c =
-    let O = sorted_places c.args.rects.now c.args.set.now c.args.keys.now c.args.order.now c.set_keys.ensures c.sort_keys.ensures in
-    (still c.requires.2.order c.sort_keys.auto.order, order_within c.args.rects.now c.args.set.now c.args.order.now O, c.requires.3)
+    let O = sorted_places c.args.rects.now c.args.set.now c.args.keys.now c.args.order.now c.set_keys.ensures c.sort.ensures in
+    (still c.requires.2.order c.sort.auto.out, order_within c.args.rects.now c.args.set.now c.args.order.now O, c.requires.3)
 
 pub returns : goal.returns
 returns c =
-    let O = sorted_places c.args.rects.now c.args.set.now c.args.keys.now c.args.order.now c.set_keys.ensures c.sort_keys.ensures in
+    let O = sorted_places c.args.rects.now c.args.set.now c.args.keys.now c.args.order.now c.set_keys.ensures c.sort.ensures in
     read_done c.args.rects.now c.args.set.now c.args.order.now c.args.reading.now c.args.at O c.put.ensures

@@ -8,7 +8,7 @@ use lib.Seq.{sets}
 use Rattle.listings.specs.Listed.{set_of}
 use Rattle.reading_order.specs.Reading.{reading_order}
 use Rattle.reading_order.specs.Steps.{Indexes, SetsIn}
-use Rattle.reading_order.proofs.Writing.{total_next, total_room, total_same, run_written}
+use Rattle.lists.proofs.Runs.{total_next, total_room, total_same, run_written}
 use Rattle.reading_order.proofs.ReadingOrder.{reading_long}
 use Rattle.reading_order.proofs.reading.read_sets.Invariants.{Progress, read}
 use Rattle.reading_order.proofs.reading.read_sets.Goals as goal
@@ -44,6 +44,7 @@ read_set-requires c =
       omega (arith, low, c.requires.3),
     )
 
+-- stands here since the check alone doesn't know that the set ends within the list
 pub overflow_add-at : goal.overflow_add-at
 overflow_add-at c =
     omega (arith, end_low c.args.rects.now (set_of c.args.sets.now) c.loop-k.invariant c.loop-k-test.true c.requires.1 c.at-set.ensures, c.requires.0.few)

@@ -5,7 +5,7 @@ use Prim.Native.Nat.{ℕ}
 use Rattle.lists.specs.Lists.{below, concat, written}
 use Rattle.listings.specs.Listed.{set_of}
 use Rattle.reading_order.specs.Reading.{reading_order}
-use Rattle.reading_order.proofs.Writing.{total}
+use Rattle.lists.proofs.Runs.{total}
 use Rattle.reading_order.proofs.reading.read_sets.Given as goal
 
 -- the reading order of set k

@@ -10,20 +10,18 @@ use lib.ListN.{set}
 use lib.Seq.{sets}
 use Rattle.lists.specs.Lists.{below, concat, written}
 use Rattle.lists.proofs.Keep.{map_map, length_values, get_d_values}
+use Rattle.lists.proofs.Runs.{value_written, run_written}
 use Rattle.rects.specs.Rects.{numbers_of}
 use Rattle.rects.specs.Around.{around}
-use Rattle.sets.specs.Listing.{members_of}
+use Rattle.listings.specs.Listed.{set_of}
 use Rattle.paper.specs.Pixels.{Raster}
 use Rattle.ruling_lists.specs.declared.ruling.Ruling.{Ruling}
 use Rattle.ruling_lists.specs.Rulings.{direction_of, direction_number, ruling_of}
 use Rattle.ruling_lists.specs.Steps.{parts_of, NearOwn, RulingMade, Described, RoomForRulings}
-use Rattle.ruling_lists.proofs.Runs.{total_four, value_written, run_written}
+use Rattle.ruling_lists.proofs.Runs.{total_four}
 use Rattle.ruling_lists.proofs.write.write_rulings.Given as goal
 
-module _ (raster : Raster) (pieces ms es : List ℕ) (n : ℕ) where
-  abbrev pub part : ℕ → List ℕ
-  part = members_of ms es n
-
+module _ (raster : Raster) (pieces : List ℕ) (part : ℕ → List ℕ) (n : ℕ) where
   abbrev pub numbers : ℕ → List ℕ
   numbers k = numbers_of (around pieces (part k))
 
@@ -55,7 +53,7 @@ module _ (raster : Raster) (pieces ms es : List ℕ) (n : ℕ) where
           near = below_more (λ j. NearOwn raster pieces (part j)) k W.near (subst (NearOwn raster pieces) p q.near);
         }
 
-  pub done : {rs₀ ds₀ rs ds : List ℕ} {cs₀ cs : List Float} {k : ℕ} → Describing rs₀ ds₀ cs₀ rs ds cs k → k ≡ n → Described raster pieces (parts_of ms es n) rs₀ ds₀ cs₀ rs ds cs
+  pub done : {rs₀ ds₀ rs ds : List ℕ} {cs₀ cs : List Float} {k : ℕ} → Describing rs₀ ds₀ cs₀ rs ds cs k → k ≡ n → Described raster pieces (parts_of part n) rs₀ ds₀ cs₀ rs ds cs
   done {rs₀} {ds₀} {cs₀ = cs₀} {k = k} W end =
       record {
         rects = W.rects ∙ ap (λ (j : ℕ). written (concat (map numbers (below j))) rs₀) end ∙ ap (λ (t : List (List ℕ)). written (concat t) rs₀) (sym (map_map (λ s. numbers_of (around pieces s)) part (below n)));
@@ -68,4 +66,4 @@ module _ (raster : Raster) (pieces ms es : List ℕ) (n : ℕ) where
 
 abbrev pub invariant-loop-k : goal.invariant-loop-k
 invariant-loop-k l =
-    Describing l.raster l.pieces l.members l.ends l.count l.initial.rects l.initial.directions l.initial.contrasts l.rects l.directions l.contrasts l.k
+    Describing l.raster l.pieces (set_of l.sets) l.sets.count l.initial.rects l.initial.directions l.initial.contrasts l.rects l.directions l.contrasts l.k

@@ -7,13 +7,12 @@ use lib.ListN.{length, get_or, take}
 use lib.Seq.{sets, length-take-le}
 use Rattle.lists.specs.Lists.{written}
 use Rattle.lists.proofs.Written.{written_run}
+use Rattle.lists.proofs.Runs.{taken_more, strung, strung_one, strung_size}
 use Rattle.rects.specs.declared.Rect.{Rect}
 use Rattle.rects.specs.Rects.{numbers_of}
 use Rattle.rects.specs.Around.{around}
 use Rattle.listings.specs.Listed.{set_of}
 use Rattle.table_lists.specs.Answers.{places_of, bounds_of}
-use Rattle.table_lists.proofs.Strung.{strung, strung_one, strung_size}
-use Rattle.table_lists.proofs.Passes.{taken_more}
 use Rattle.table_lists.proofs.facts.bound.Given as goal
 
 -- the numbers of the rectangle around set k

@@ -6,12 +6,12 @@ use native.Mathlib.Omega.{arith}
 use lib.Ieee.{Float}
 use lib.ListN.{length, get_or, take, set}
 use Rattle.lists.specs.Lists.{written}
+use Rattle.lists.proofs.Runs.{mapped_more}
 use Rattle.listings.specs.Listed.{set_of}
 use Rattle.meeting.specs.declared.segment.Segment.{Segment}
 use Rattle.meeting.specs.Segments.{ruling}
 use Rattle.meeting.specs.Meeting.{share_of}
 use Rattle.table_lists.specs.Steps.{Measured}
-use Rattle.table_lists.proofs.Passes.{mapped_more}
 use Rattle.table_lists.proofs.facts.measure.Given as goal
 
 module _ (join : ℕ) (s : ℕ → Segment) (f : ℕ → List ℕ) (numbers ru : List ℕ) (sh : List Float) where

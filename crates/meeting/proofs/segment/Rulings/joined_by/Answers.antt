@@ -52,4 +52,4 @@ returns-then-direction-a c =
 
 pub joins_end-requires : goal.joins_end-requires
 joins_end-requires c =
-    (c.requires.0, across c.args.a (rect_at c.args.self.now.rects (get_or c.args.self.now.chosen c.args.j 0)) _ (rw c.direction.ensures at c.if-direction-a.false) c.at.ensures)
+    across c.args.a (rect_at c.args.self.now.rects (get_or c.args.self.now.chosen c.args.j 0)) _ (rw c.direction.ensures at c.if-direction-a.false) c.at.ensures

@@ -1,9 +1,0 @@
--- `read::facts_long` meets its contract.
-use mathlib.Core.Path.{refl}
-use Rattle.lists.specs.Lists.{every_below}
-use Rattle.read_findings.specs.Read.{all_long}
-use Rattle.read_findings.proofs.facts_long.Goals as goal
-
-pub returns : goal.returns
-unfolding all_long every_below
-returns c = refl
