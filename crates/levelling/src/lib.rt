@@ -14,7 +14,7 @@ use layout::sides::Sides;
 use layout::tables::{self, Shears};
 use shear_runs::bands::Rows;
 use shear_runs::columns::Part;
-use shear_runs::{bands, columns};
+use shear_runs::{bands, columns, raster};
 
 // Page columns from column `from` on, moved down by `shear`, as levelled row y shows them.
 fn level_run(sides: Sides, gray: &[u8], out: &mut [u8], from: usize, shear: usize, y: usize)
@@ -22,15 +22,15 @@ fn level_run(sides: Sides, gray: &[u8], out: &mut [u8], from: usize, shear: usiz
     ensures { Painted (column_shows sides gray.now shear) from y out.old out.new }
 {
     if y < shear {
-        return out.fill(255);
+        return raster::whiten(out);
     }
     let row = y - shear;
     if sides.ph <= row {
-        return out.fill(255);
+        return raster::whiten(out);
     }
     let start = row * sides.pw + from;
     let end = start + out.len();
-    out.copy_from_slice(&gray[start..end])
+    raster::copy(out, &gray[start..end])
 }
 
 // Page column x, moved down by `down`, as levelled row y shows it.
@@ -107,8 +107,8 @@ fn pad_row(w: usize, out: &mut [u8], y: usize, from: usize, to: usize)
     ensures { Whitened w (InRows y (y + 1) (Outside from to)) out.old out.new }
 {
     let row = y * w;
-    out[row..row + from].fill(255);
-    out[row + to..row + w].fill(255)
+    raster::whiten(&mut out[row..row + from]);
+    raster::whiten(&mut out[row + to..row + w])
 }
 
 // White paper left and right of the page, in a band.

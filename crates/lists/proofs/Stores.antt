@@ -1,12 +1,19 @@
--- What stands in a list after a run of stores: inside the run what was stored, elsewhere what stood there.
-use mathlib.Core.Path.{◌≡◌, refl, ◌∙◌}
+-- Runs of stores in a list: one more, and what stands in it afterwards: inside the run what was stored, elsewhere what stood there.
+use mathlib.Core.Path.{◌≡◌, refl, ap, ◌∙◌}
 use mathlib.Core.Logic.{◌⊎◌, inl, inr}
-use mathlib.Core.List.{List, [], ◌∷◌}
+use mathlib.Core.List.{List, [], ◌∷◌, ◌++◌}
 use Prim.Native.Nat.{ℕ, zero, suc, ◌+◌, ◌≤◌, ◌<◌}
-use native.Mathlib.Nat.{not-suc-le-zero}
+use native.Mathlib.Nat.{not-suc-le-zero, add-zero}
 use native.Mathlib.Omega.{arith}
 use lib.ListN.{length, get_or, set, length-set}
 use lib.Seq.{sets, get_or-set_same, get_or-set_other}
+
+-- one store more behind a run
+pub sets_more : (xs l : List ℕ) (i v : ℕ) → set (sets l i xs) (i + length xs) v ≡ sets l i (xs ++ (v ∷ []))
+sets_more [] l i v = ap (λ (k : ℕ). set l k v) (add-zero i)
+sets_more (x ∷ xs) l i v =
+    let e : i + suc (length xs) ≡ suc i + length xs = omega arith in
+    ap (λ (k : ℕ). set (sets (set l i x) (suc i) xs) k v) e ∙ sets_more xs (set l i x) (suc i) v
 
 module _ {A : Type 0} (d : A) where
   pub sets_other : (vs l : List A) (at i : ℕ) → (i < at) ⊎ (at + length vs ≤ i) → get_or (sets l at vs) i d ≡ get_or l i d

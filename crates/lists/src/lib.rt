@@ -24,14 +24,16 @@ pub fn numbers(list: &mut [u32], n: usize)
     }
 }
 
-// Writes xs from place `at` on, and returns its end.
+// Writes xs from place `at` on, and returns its end. By a loop, since the library's `copy_from_slice` calls `memmove`, which an archive
+// for C would then need from outside.
 pub fn append(xs: &[u32], list: &mut [u32], at: usize) -> usize
     requires { at + length xs.now ≤ length list.old }
     ensures { (list.new ≡ sets list.old at xs.now) × (result ≡ at + length xs.now) }
 {
-    let end = at + xs.len();
-    list[at..end].copy_from_slice(xs);
-    end
+    for k in 0..xs.len() {
+        list[at + k] = xs[k];
+    }
+    at + xs.len()
 }
 
 // Stores n values, each as `value` gives it, from place `at` on.

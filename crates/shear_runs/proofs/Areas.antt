@@ -1,5 +1,5 @@
 -- Steps that write areas of a raster follow each other: areas grow, and what was right stays right.
-use mathlib.Core.Path.{◌≡◌, sym, ap, ◌∙◌, subst}
+use mathlib.Core.Path.{◌≡◌, refl, sym, ap, ◌∙◌, subst}
 use mathlib.Core.Logic.{◌⊎◌, inl, inr, ⊎_elim}
 use mathlib.Core.List.{List}
 use Prim.Native.Nat.{ℕ, ◌+◌, ◌-◌, ◌*◌, ◌≤◌, ◌<◌}
@@ -12,6 +12,10 @@ use Rattle.layout.specs.Raster.{raster}
 use Rattle.layout.proofs.Places.{le_or_lt, rows_apart, raster_is}
 use Rattle.shear_runs.specs.Steps.{Shows, InRows, Columns, All}
 use Rattle.shear_runs.proofs.Parts.{put, put_length, put_inside, put_before, put_after}
+
+-- nothing done is right in an area without places
+pub holds_none : (w : ℕ) (f : ℕ → ℕ → ℕ) (area : ℕ → ℕ → Type 0) (out : List ℕ) → ((x y : ℕ) → x < w → area x y → ⊥) → Shows w f area out out
+holds_none w f area out none = record { long = refl; kept = λ x y l h. h; right = λ x y l a. absurd (none x y l a) }
 
 -- one step, then another
 pub holds_then : {w : ℕ} {f : ℕ → ℕ → ℕ} {P Q R : ℕ → ℕ → Type 0} {a b c : List ℕ} → Shows w f P a b → Shows w f Q b c → ((x y : ℕ) → x < w → R x y → P x y ⊎ Q x y) → Shows w f R a c
@@ -71,10 +75,16 @@ holds_in p part = record { long = p.long; kept = p.kept; right = λ x y l r. p.r
 -- ---- row by row
 
 module _ (w : ℕ) (f : ℕ → ℕ → ℕ) (area : ℕ → ℕ → Type 0) where
+  pub rows_none : (y : ℕ) (out : List ℕ) → Shows w f (InRows y y area) out out
+  rows_none y out = holds_none w f (InRows y y area) out (λ x z l h. omega (arith, h.0.0, h.0.1))
+
   -- the rows up to y, then those from y on
   pub rows_then : (y0 y y1 : ℕ) {a b c : List ℕ} → Shows w f (InRows y0 y area) a b → Shows w f (InRows y y1 area) b c → Shows w f (InRows y0 y1 area) a c
   rows_then y0 y y1 p q =
       holds_then p q (λ x z l h. ⊎_elim (λ (m : y ≤ z). inr ((m, h.0.1), h.1)) (λ (m : z < y). inl ((h.0.0, m), h.1)) (le_or_lt y z))
+
+  pub rows_fewer : (y0 y1 y : ℕ) {a b : List ℕ} → y1 ≤ y → Shows w f (InRows y0 y area) a b → Shows w f (InRows y0 y1 area) a b
+  rows_fewer y0 y1 y fewer p = holds_in p (λ x z l h. ((h.0.0, omega (arith, h.0.1)), h.1))
 
 -- all rows are the raster
 pub all_shown : (w h : ℕ) (f : ℕ → ℕ → ℕ) (out out' : List ℕ) (y : ℕ) → h ≤ y → length out ≡ w * h → Shows w f (InRows 0 y All) out out' → out' ≡ raster w h f
@@ -83,6 +93,13 @@ all_shown w h f out out' y whole long p = raster_is w h f out' (p.long ∙ long)
 -- ---- the columns of a band, part by part
 
 module _ (w : ℕ) (f : ℕ → ℕ → ℕ) (at : ℕ → ℕ) where
+  pub columns_none : (y0 y1 from : ℕ) (out : List ℕ) → Shows w f (InRows y0 y1 (Columns at from from)) out out
+  columns_none y0 y1 from out = holds_none w f (InRows y0 y1 (Columns at from from)) out (λ x z l h. omega (arith, h.1.0, h.1.1))
+
+  pub columns_then : (y0 y1 from to to' : ℕ) {a b c : List ℕ} → Shows w f (InRows y0 y1 (Columns at from to)) a b → Shows w f (InRows y0 y1 (Columns at to to')) b c → Shows w f (InRows y0 y1 (Columns at from to')) a c
+  columns_then y0 y1 from to to' p q =
+      holds_then p q (λ x z l h. ⊎_elim (λ (m : at z + to ≤ x). inr (h.0, (m, h.1.1))) (λ (m : x < at z + to). inl (h.0, (h.1.0, m))) (le_or_lt (at z + to) x))
+
   -- one part, in row y: s and n are where it begins in the raster, and how long it is
   module _ (from to y s n : ℕ) (out : List ℕ) (more : from < to) (in_row : at y + to ≤ w) (room : y * w + w ≤ length out) (is-s : s ≡ y * w + at y + from) (is-n : n ≡ to - from) where
     -- what is lent of the row is as long as the columns are many

@@ -13,7 +13,7 @@ use layout::sides::Sides;
 use layout::tables::{self, Shears};
 use shear_runs::bands::Rows;
 use shear_runs::columns::Part;
-use shear_runs::{bands, columns};
+use shear_runs::{bands, columns, raster};
 
 // Where page pixel (x, y) stands in the levelled raster, `down` rows below.
 #[tactic(auto, using(crate::proofs::Places::small))]
@@ -40,7 +40,7 @@ fn unlevel_run(shears: &Shears, level: &[u8], out: &mut [u8], part: Part, rows: 
         let start = place_of(sides, shear_x, part.from, y, down);
         let end = start + (part.to - part.from);
         let row = y * sides.pw;
-        out[row + part.from..row + part.to].copy_from_slice(&level[start..end]);
+        raster::copy(&mut out[row + part.from..row + part.to], &level[start..end]);
     }
 }
 

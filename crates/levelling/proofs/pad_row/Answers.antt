@@ -5,4 +5,4 @@ use Rattle.levelling.proofs.pad_row.Goals as goal
 pub returns : goal.returns
 returns c =
     let a = c.args in
-    white_margins a.w a.y a.from a.to a.out.now _ _ c.requires.0 c.requires.1.0 (c.fill.ensures.after (λ y e. e)) (c.fill-2.ensures.after (λ y e. e))
+    white_margins a.w a.y a.from a.to a.out.now _ _ c.requires.0 c.requires.1.0 c.whiten.ensures c.whiten-2.ensures

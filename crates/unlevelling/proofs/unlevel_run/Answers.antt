@@ -10,8 +10,8 @@ use Rattle.unlevelling.proofs.Places.{place_below, run_within, run_shows}
 use Rattle.unlevelling.proofs.unlevel_run.Goals as goal
 
 -- what is copied lies in the levelled raster
-pub slice_bounds-copy_from_slice-end-in-loop-y : goal.slice_bounds-copy_from_slice-end-in-loop-y
-slice_bounds-copy_from_slice-end-in-loop-y c =
+pub slice_bounds-copy-end-in-loop-y : goal.slice_bounds-copy-end-in-loop-y
+slice_bounds-copy-end-in-loop-y c =
     let a = c.args in
     let S = shears_of a.shears.now in
     let pre = c.requires in
@@ -32,4 +32,4 @@ loop-y-preserved c =
     let n = y * S.sides.pw + a.part.to - s in
     let m = c.place_of-start.result + (a.part.to - a.part.from) - c.place_of-start.result in
     let written = run_shows S a.level.now pre.0 c.loop-y.out (c.loop-y.invariant.long ∙ pre.1.0) y in_page a.part.from a.part.to pre.1.1.0 s n m c.place_of-start.result refl (omega arith) (omega arith) start in
-    rows_then S.sides.pw (pixel_in S.sides a.level.now S.shear S.shear_x) (PageColumns a.part.from a.part.to) a.rows.from y (y + 1) c.loop-y.invariant (rw c.copy_from_slice.ensures.after written)
+    rows_then S.sides.pw (pixel_in S.sides a.level.now S.shear S.shear_x) (PageColumns a.part.from a.part.to) a.rows.from y (y + 1) c.loop-y.invariant (rw c.copy.ensures written)
