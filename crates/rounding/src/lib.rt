@@ -6,7 +6,8 @@ ghost use Rattle.std.specs.Float.Ieee.{to_signed};
 ghost use Rattle.math.specs.Rounding.{round_away, rounded_product, round_output};
 
 // x to the nearest whole number, halves away from zero; a zero keeps its sign. It stands for the definition that contracts name, as
-// `to_i64` does.
+// `to_i64` does. Each names laws that a right body by cases needs, so that an edit of one case is refused for its value.
+#[tactic(auto, using(crate::proofs::Nearest::round_is, math::proofs::Rounded::neg_rounds))]
 pub fn round(x: f64) -> f64
     ensures { result ≡ round_away x }
 {
@@ -14,6 +15,7 @@ pub fn round(x: f64) -> f64
 }
 
 // Rust's `x as i64`: toward zero, the nearest end of the range where x is past it, 0 for a NaN.
+#[tactic(auto, using(crate::proofs::Cast::cast_nan, crate::proofs::Ends::from_end))]
 pub fn to_i64(x: f64) -> i64
     ensures { result ≡ to_signed 63 x }
 {

@@ -7,12 +7,15 @@ ghost use Rattle.std.specs.Float.Ieee.Scale as Scale;
 ghost use Rattle.math.specs.Select.{absolute, negative, minimum_number, maximum_number, clamp_to};
 
 // Neither a NaN nor an infinity. It and `abs` stand for the definitions that contracts name.
+#[tactic(auto, using(crate::proofs::Words::finite_is))]
 pub fn finite(x: f64) -> bool
     ensures { result ≡ Scale.finite x }
 {
     x.is_finite()
 }
 
+// The second law is for a body with a case for zero: an edit of that case is refused for its value.
+#[tactic(auto, using(crate::proofs::Words::size_is, crate::proofs::Words::zero_size))]
 pub fn abs(x: f64) -> f64
     ensures { result ≡ absolute x }
 {
@@ -20,6 +23,7 @@ pub fn abs(x: f64) -> f64
 }
 
 // The sign bit of a number.
+#[tactic(auto, using(crate::proofs::Words::negative_is))]
 fn is_negative(x: f64) -> bool
     requires { is_nan x ≡ false }
     ensures { result ≡ negative x }

@@ -1,0 +1,2 @@
+-- What the proofs of `select` cite.
+pub mod Words
