@@ -21,7 +21,7 @@ pub page_within : (s : Sides) → sides_fit s ≡ true → (s.pw ≤ s.w) × (s.
 page_within s h = let a = sides_yes s h in (a.page_wide, a.page_high)
 
 module _ (sides : Sides) (shear shear_x : List ℤ) where
-  mapped_yes : (r : Rect) → first_missed (map_questions sides shear shear_x r) ≡ 0 → SidesAre sides × (Sheared sides shear shear_x × Inside sides.w sides.h r)
+  pub mapped_yes : (r : Rect) → first_missed (map_questions sides shear shear_x r) ≡ 0 → SidesAre sides × (Sheared sides shear shear_x × Inside sides.w sides.h r)
   mapped_yes r h =
       let yes = all_yes (map_questions sides shear shear_x r) tt h in
       (sides_yes sides yes.0, (sheared_yes sides shear shear_x yes.0 yes.1.0 yes.1.1.0, inside_says sides.w sides.h r yes.1.1.1.0))

@@ -1,6 +1,7 @@
 -- The laws that `layout`'s proofs and the crates above it cite.
 pub mod Every
 pub mod Signed
+pub mod Entries
 pub mod Answers
 pub mod Places
 pub mod Shows

@@ -13,7 +13,7 @@ use Rattle.math.proofs.Bound.{AtMost}
 use Rattle.math.proofs.Limit.{size_at_most, between_at_most, from_zero, above_zero}
 use Rattle.params.specs.Constants.{float_one, largest_xheight}
 use Rattle.params.specs.Scan.{xheight_in_range}
-use Rattle.params.specs.Settings.{bounded, not_negative, from_zero_to_one}
+use Rattle.params.specs.Settings.{bounded, not_negative, from_zero_to_one, from_zero_to_million}
 use Rattle.params.proofs.Every.{both_true}
 
 million_value : HasValue million false 1_000_000 1
@@ -50,6 +50,11 @@ between_says n x y v h k = record { at_most = between_at_most n x y v h k; not_b
 
 pub from_zero_to_one_says : (x : Float) → from_zero_to_one x ≡ true → From0To 1 x
 from_zero_to_one_says x h = let b = both_true (le zero x) (le x float_one) h in between_says 1 x float_one one_value b.0 b.1
+
+pub from_zero_to_million_says : (x : Float) → from_zero_to_million x ≡ true → From0To 1_000_000 x
+from_zero_to_million_says x h =
+    let b = both_true (finite x && le zero x) (le x million) h in
+    between_says 1_000_000 x million million_value (both_true (finite x) (le zero x) b.0).1 b.1
 
 at_least : (x y : Float) → lt x y ≡ true → le x y ≡ true
 unfolding le

@@ -2,7 +2,7 @@
 use mathlib.Core.Path.{◌≡◌}
 use Prim.Native.Nat.{◌≤◌}
 use mathlib.Core.Bool.{true, false}
-use mathlib.Core.List.{List, ◌++◌}
+use mathlib.Core.List.{List, [], ◌∷◌, ◌++◌}
 use lib.Dec.{leb}
 use lib.Ieee.{lt, le}
 use Rattle.std.proofs.Common.{rules, tests}
@@ -14,10 +14,10 @@ use Rattle.questions.proofs.FirstMissed.{AllYes, all_yes}
 use Rattle.params.specs.declared.settings.RulingsParams.{RulingsParams}
 use Rattle.params.specs.declared.settings.FusionParams.{FusionParams}
 use Rattle.params.specs.Settings.{all_of, from_zero_to_one, float_settings, length_settings, share_settings}
-use Rattle.params.specs.Settings.{floats_bounded, lengths_not_negative, box_sizes_ordered, shares_in_range, minima_in_range, free_rules_counted}
-use Rattle.params.specs.Settings.{validate_questions, free_rules_questions, settings_questions}
+use Rattle.params.specs.Settings.{floats_bounded, lengths_not_negative, box_sizes_ordered, shares_in_range, minima_in_range, caps_in_range, free_rules_counted}
+use Rattle.params.specs.Settings.{validate_questions, fusion_questions, free_rules_questions, settings_questions}
 use Rattle.params.proofs.Every.{each, both_true}
-use Rattle.params.proofs.Bounds.{From0To, bounded_says, not_negative_says, from_zero_to_one_says}
+use Rattle.params.proofs.Bounds.{From0To, bounded_says, not_negative_says, from_zero_to_one_says, from_zero_to_million_says}
 
 -- question 7
 pub record FloatsBounded (p : RulingsParams) : Type 0 where
@@ -99,6 +99,12 @@ pub record CapsInRange (f : FusionParams) : Type 0 where
   pub llr_clip : From0To 1_000_000 f.llr_clip
   pub group_cap : From0To 1_000_000 f.group_cap
 
+pub caps_say : (f : FusionParams) → caps_in_range f ≡ true → CapsInRange f
+unfolding caps_in_range
+caps_say f h =
+    let e = each from_zero_to_million_says (f.llr_clip ∷ f.group_cap ∷ []) h in
+    record { llr_clip = e.0; group_cap = e.1.0 }
+
 -- question 13
 pub free_rules_say : (p : RulingsParams) → free_rules_counted p ≡ true → 1 ≤ p.min_free_rules
 unfolding free_rules_counted
@@ -124,6 +130,15 @@ validate_says p later answers = record {
 }
 
 -- ---- after a guard that gave 0
+
+pub validate_passed : (p : RulingsParams) → first_missed (validate_questions p) ≡ 0 → Validated p
+validate_passed p h = validate_says p [] (all_yes (validate_questions p) tt h)
+
+pub fusion_passed : (f : FusionParams) → first_missed (fusion_questions f) ≡ 0 → CapsInRange f
+fusion_passed f h = caps_say f (all_yes (fusion_questions f) tt h).0
+
+pub free_rules_passed : (p : RulingsParams) → first_missed (free_rules_questions p) ≡ 0 → 1 ≤ p.min_free_rules
+free_rules_passed p h = free_rules_say p (all_yes (free_rules_questions p) tt h).0
 
 pub settings_passed : (p : RulingsParams) → first_missed (settings_questions p) ≡ 0 → Validated p × (1 ≤ p.min_free_rules)
 settings_passed p h =

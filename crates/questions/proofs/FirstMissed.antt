@@ -20,7 +20,7 @@ abbrev pub numbered : List Question → Bool
 numbered [] = true
 numbered (q ∷ qs) = ltb 0 q.0 && numbered qs
 
-passed : (n : ℕ) {b : Bool} (qs : List Question) → b ≡ true → first_missed ((n, b) ∷ qs) ≡ first_missed qs
+pub passed : (n : ℕ) {b : Bool} (qs : List Question) → b ≡ true → first_missed ((n, b) ∷ qs) ≡ first_missed qs
 passed n qs h = simp h
 
 -- the parts of "numbered" at one question
@@ -33,7 +33,7 @@ others zero m t = absurd t
 others (suc n) m t = subst (λ (b : Bool). T (b && m)) (lt-ltb 0 (suc n) (omega arith)) t
 
 -- nothing missed up to here: the rest decides
-up_to_here : (ps qs : List Question) → AllYes ps → first_missed (ps ++ qs) ≡ first_missed qs
+pub up_to_here : (ps qs : List Question) → AllYes ps → first_missed (ps ++ qs) ≡ first_missed qs
 up_to_here [] qs h = refl
 up_to_here (p ∷ ps) qs h = passed p.0 {b = p.1} (ps ++ qs) h.0 ∙ up_to_here ps qs h.1
 

@@ -1,9 +1,9 @@
 -- What a caller has once its rule is joined and listed: the listing is that of the closed sets, and each number gives its set back.
 use mathlib.Core.Path.{◌≡◌, refl, sym, ap, ap₂, ◌∙◌}
-use mathlib.Core.Bool.{Bool}
+use mathlib.Core.Bool.{Bool, true}
 use mathlib.Core.List.{List, [], ◌∷◌, ◌++◌, append_assoc}
 use Prim.Native.Nat.{ℕ, zero, suc, ◌+◌, ◌-◌, ◌≤◌, ◌<◌}
-use native.Mathlib.Nat.{not-suc-le-zero, le_of_suc-le-suc}
+use native.Mathlib.Nat.{not-suc-le-zero, le_of_suc-le-suc, lt_of_le_of_lt}
 use native.Mathlib.Decide.{dec_lt}
 use native.Mathlib.Omega.{arith}
 use lib.ListN.{length, get_or, take, drop, length-append, get_or-eq_default}
@@ -13,10 +13,11 @@ use Rattle.lists.specs.Lists.{concat, written}
 use Rattle.lists.proofs.Written.{written_length, written_at}
 use Rattle.sets.specs.Closed.{Below, Listed}
 use Rattle.sets.specs.Listing.{closed_sets, ends_from, start_of, members_of, ReadAs}
-use Rattle.sets.specs.Steps.{classes, Joins, root}
-use Rattle.sets.proofs.Classes.{classes_listed}
+use Rattle.sets.specs.Steps.{classes, classes_in, Listing, Joins, Parents, root}
+use Rattle.sets.proofs.Classes.{classes_listed, classes_listed_in}
 use Rattle.sets.proofs.Grown.{Holds, classes_closed_sets}
-use Rattle.sets.proofs.Sizes.{length_ends}
+use Rattle.sets.proofs.Sizes.{classes_all, classes_count, classes_total, length_ends}
+use Rattle.sets.proofs.Roots.{root_le, root_root}
 
 -- where every test passes, the part stands between the bounds
 pub members_inside : (members ends : List ℕ) (count k : ℕ) → k < count → k < length ends → start_of ends k ≤ get_or ends k 0
@@ -27,6 +28,11 @@ members_inside members ends count k a b g h =
 -- a set is listed exactly when it is closed, and then once
 pub joins_listed : {n : ℕ} {R : ℕ → ℕ → Type 0} {p : List ℕ} → Joins n (Below n) R p → Listed (Below n) R (classes n (root p))
 joins_listed J = classes_listed J.roots
+
+-- the same over a domain that a test decides: what is outside it stands in no set
+pub joins_listed_in : {n : ℕ} {D : ℕ → Type 0} {R : ℕ → ℕ → Type 0} {p : List ℕ} (q : ℕ → Bool) → ((i : ℕ) → D i → q i ≡ true)
+    → ((i : ℕ) → i < n → q i ≡ true → D i) → Joins n D R p → Listed D R (classes_in n q (root p))
+joins_listed_in q test domain J = classes_listed_in q (λ i d. (J.inside i d, test i d)) domain J.roots
 
 -- the listing is the one that `closed_sets` computes
 pub joins_closed_sets : {n : ℕ} {p : List ℕ} (touch : ℕ → ℕ → Bool) → Joins n (Below n) (Holds touch) p → classes n (root p) ≡ closed_sets n touch
@@ -99,3 +105,15 @@ module _ (ss : List (List ℕ)) (m e : List ℕ) (room : length (concat ss) ≤ 
       record { each = λ k h. members_listed k; none = λ k h. members_listed k ∙ get_or-eq_default ss [] h }
 
 -- a listing that `list` made has n members in all, and each of its numbers gives its set back
+module _ {n : ℕ} {p : List ℕ} (P : Parents n p) where
+  pub listing_total : length (concat (classes n (root p))) ≡ n
+  listing_total = classes_total n (root p) (root_root P) (λ i l. lt_of_le_of_lt (root_le P i l) l)
+
+  pub listing_count : length (classes n (root p)) ≤ n
+  listing_count = rw (sym (classes_all n (root p))) (classes_count n (root p) n)
+
+  pub listing_set : {m e p' m' e' : List ℕ} {r : ℕ} → n ≤ length m → n ≤ length e → Listing n p m e p' m' e' r → (k : ℕ)
+      → members_of m' e' r k ≡ get_or (classes n (root p)) k []
+  listing_set {m} {e} hm he L k =
+      rw (L.members, L.ends, L.count)
+      (members_listed (classes n (root p)) m e (omega (arith, listing_total)) (omega (arith, listing_count)) k)

@@ -1,11 +1,13 @@
--- A listing in another order lists the same closed sets.
+-- A listing in another order, or of a rule that is the same on the domain, lists the same closed sets.
 use mathlib.Core.Path.{◌≡◌, sym, ap, ◌∙◌}
+use mathlib.Core.Logic.{inl, ⊎_map}
 use mathlib.Core.List.{List, [], map}
 use Prim.Native.Nat.{ℕ, ◌<◌}
 use lib.ListN.{length, get_or, length-map}
 use Rattle.lists.specs.Lists.{In}
 use Rattle.lists.proofs.Keep.{in_at, get_d_map}
-use Rattle.sets.specs.Closed.{Listed}
+use Rattle.sets.specs.Closed.{Closed, Listed}
+use Rattle.sets.proofs.Chains.{chain_step, chain_map}
 
 -- place k of the second listing holds the set that has the number `from k` in the first, and each number stands at one place
 pub listed_reordered : {D : ℕ → Type 0} {R : ℕ → ℕ → Type 0} {ss tt : List (List ℕ)} → Listed D R ss → (from : ℕ → ℕ)
@@ -40,3 +42,20 @@ listed_ordered {D} {R} {ss} L order low one all =
   where
     long : (k : ℕ) → k < length (map (λ m. get_or ss m []) order) → k < length order
     long k h = rw (length-map order (λ m. get_or ss m [])) at h
+
+module _ {D : ℕ → Type 0} {R R' : ℕ → ℕ → Type 0} (to : (i j : ℕ) → D i → D j → R i j → R' i j) (from : (i j : ℕ) → D i → D j → R' i j → R i j) where
+  pub closed_exchange : {s : List ℕ} → Closed D R s → Closed D R' s
+  closed_exchange {s} C =
+      record {
+        ascending = C.ascending;
+        within = C.within;
+        nonempty = C.nonempty;
+        joined = λ i j mi mj. chain_map (λ k m. m) (λ a b ma mb r. chain_step ma mb (inl (to a b (C.within a ma) (C.within b mb) r))) (C.joined i j mi mj);
+        apart = λ i j m d t.
+            C.apart i j m d (⊎_map (from i j (C.within i m) d) (from j i d (C.within i m)) t);
+      }
+
+pub listed_exchange : {D : ℕ → Type 0} {R R' : ℕ → ℕ → Type 0} {ss : List (List ℕ)} → ((i j : ℕ) → D i → D j → R i j → R' i j)
+    → ((i j : ℕ) → D i → D j → R' i j → R i j) → Listed D R ss → Listed D R' ss
+listed_exchange to from L =
+    record { closed = λ k h. closed_exchange to from (L.closed k h); once = λ s C. L.once s (closed_exchange from to C) }
