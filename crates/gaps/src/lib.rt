@@ -24,8 +24,8 @@ fn join_row(values: &[u32], gap: u32, parents: &mut [u32], i: usize)
     let n = values.len();
     let value = values[i];
     for j in i + 1..n {
-        let other = values[j];
-        sets::join_if(parents, n, i, j, || near(value, other, gap));
+        let touch = near(value, values[j], gap);
+        sets::join_known(parents, n, i, j, touch);
     }
 }
 

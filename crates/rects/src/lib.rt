@@ -1,9 +1,10 @@
 // Rectangles by value and as number lists, and what questions 5 and 6 ask of such lists.
 #![tactic(auto)]
 
-ghost use Rattle.std.specs.Prelude.{◌≡◌, ◌-◌, min, length};
+ghost use Rattle.std.specs.Prelude.{◌≡◌, ◌&&◌, ◌-◌, min, length};
 ghost use Prim.Native.Nat.{◌+◌, ◌*◌, ◌^◌, ◌<◌, ◌≤◌};
 ghost use Rattle.std.proofs.lemmas.List.Edits.{sets};
+ghost use Rattle.lists.specs.Lists.{every_below};
 ghost use Rattle.rects.specs.Rects.{width_of, height_of, rect_at, numbers_of, inside, count_fits, all_inside};
 ghost use Rattle.rects.specs.Around.{union_of, around};
 ghost use Rattle.rects.specs.Steps.{Places};
@@ -114,15 +115,16 @@ fn last(n: usize) -> u32
     n.saturating_sub(1).min(4_294_967_295) as u32
 }
 
-// Question 6. Every rectangle is read, and its numbers are compared as they are: with no branch and no wider number in the loop
-// several rectangles are tested at a time.
-pub fn all_inside(rects: &[u32], w: usize, h: usize) -> bool
-    ensures { result ≡ all_inside w h rects.now }
+// Are the rectangles from one up to another inside? Each is read, and its numbers are compared as they are: with no branch and no wider
+// number in the loop several rectangles are tested at a time.
+fn part_inside(rects: &[u32], from: usize, to: usize, w: usize, h: usize) -> bool
+    requires { (from ≤ to) × (4 * to ≤ length rects.now) }
+    ensures { every_below to (λ k. inside w h (rect_at rects.now k)) ≡ every_below from (λ k. inside w h (rect_at rects.now k)) && result }
 {
     let right = last(w);
     let bottom = last(h);
     let mut inside = true;
-    for k in 0..rects.len() / 4 {
+    for k in from..to {
         let r = rect_at(rects, k);
         inside &= (r.x0 <= r.x1)
             & (r.y0 <= r.y1)
@@ -130,4 +132,21 @@ pub fn all_inside(rects: &[u32], w: usize, h: usize) -> bool
             & ((0 < h) & (r.y1 <= bottom));
     }
     inside
+}
+
+// Question 6. Parts of 64 rectangles, so that of a list whose first rectangle lies outside one part is read. A `while`: a turn goes on
+// where its part ended.
+pub fn all_inside(rects: &[u32], w: usize, h: usize) -> bool
+    ensures { result ≡ all_inside w h rects.now }
+{
+    let n = rects.len() / 4;
+    let mut k = 0;
+    while k < n {
+        let end = k + (n - k).min(64);
+        if !part_inside(rects, k, end, w, h) {
+            return false;
+        }
+        k = end;
+    }
+    true
 }

@@ -69,6 +69,16 @@ pub fn join_if<F: FnOnce() -> bool>(
     false
 }
 
+// Joins the sets of two indexes if they are known to touch. Those that don't cost no look at the parents.
+pub fn join_known(parents: &mut [u32], n: usize, a: usize, b: usize, touch: bool)
+    requires { Parents n parents.old × (a < n) × (b < n) }
+    ensures { Joined n parents.old a b touch parents.new }
+{
+    if touch {
+        join_if(parents, n, a, b, || true);
+    }
+}
+
 // Each index below n points at its root, the smallest index of its set.
 pub fn flatten(parents: &mut [u32], n: usize)
     requires { Parents n parents.old }

@@ -1,6 +1,5 @@
 -- `gaps::join_row` meets its contract: each turn sees one pair more.
-use Rattle.std.proofs.Common.{rules}
-use mathlib.Core.Path.{◌≡◌, refl, sym, ◌∙◌}
+use mathlib.Core.Path.{◌≡◌, sym, ◌∙◌}
 use mathlib.Core.Bool.{Bool}
 use mathlib.Core.Logic.{⊎_elim, inl}
 use mathlib.Core.List.{List}
@@ -25,6 +24,4 @@ turn values gap {i} {j = j} t W later l e J =
 
 pub loop-j-preserved : goal.loop-j-preserved
 loop-j-preserved c =
-    let values = c.args.values.now in
-    let t = touch values c.args.gap c.args.i c.loop-j.j in
-    turn values c.args.gap t c.loop-j.invariant (omega arith) c.loop-j-test.true refl (c.join_if.ensures.joined t (λ r p. search rules))
+    turn c.args.values.now c.args.gap c.near-touch.result c.loop-j.invariant (omega arith) c.loop-j-test.true c.near-touch.ensures c.join_known.ensures

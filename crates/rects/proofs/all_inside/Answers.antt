@@ -1,29 +1,32 @@
--- `rects::all_inside` meets its contract: whether every rectangle below k is inside.
-use mathlib.Core.Path.{◌≡◌, refl, sym, ap, ap₂, ◌∙◌}
-use mathlib.Core.Bool.{◌&&◌}
-use Prim.Native.Nat.{ℕ, suc, ◌+◌, ◌-◌, ◌*◌, ◌<◌, min}
+-- `rects::all_inside` meets its contract: every rectangle below k is inside.
+use mathlib.Core.Path.{◌≡◌, refl, sym, ◌∙◌}
+use mathlib.Core.Bool.{Bool, true, false, ◌&&◌, true≢false}
+use Prim.Native.Nat.{ℕ, ◌+◌, ◌≤◌}
+use native.Mathlib.Nat.{lt_of_lt_of_le}
 use native.Mathlib.Omega.{arith}
-use lib.Dec.{leb, ltb}
-use Rattle.std.proofs.lemmas.Bool.Decides.{leb_tells}
 use Rattle.lists.specs.Lists.{every_below}
-use Rattle.lists.proofs.Every.{every_more}
-use Rattle.rects.specs.declared.Rect.{Rect}
-use Rattle.rects.specs.Rects.{inside, rect_at}
+use Rattle.lists.proofs.Every.{every_at, every_of}
+use Rattle.rects.specs.Rects.{count, inside, rect_at}
 use Rattle.rects.proofs.all_inside.Goals as goal
 
--- a number lies before n where there is a place and the number is at most the last one
-before : (x n last : ℕ) → x < 4294967296 → last ≡ min (n - 1) 4294967295 → ltb 0 n && leb x last ≡ ltb x n
-before x n last l e = grind (arith, leb_tells (suc 0) n, leb_tells x last, leb_tells (suc x) n, l, e)
+-- where not all before a place pass, not all before a later one do
+none_later : (m n : ℕ) (q : ℕ → Bool) → m ≤ n → every_below m q ≡ false → false ≡ every_below n q
+none_later m n q l h = go (every_below n q) refl
+  where
+    go : (b : Bool) → every_below n q ≡ b → false ≡ b
+    go false e = refl
+    go true e = absurd (true≢false (sym (every_of m q (λ k i. every_at n q e k (lt_of_lt_of_le i l))) ∙ h))
+
+fails : (a r : Bool) → r ≡ false → a && r ≡ false
+fails true r h = h
+fails false r h = refl
 
 pub loop-k-init : goal.loop-k-init
 unfolding every_below
-loop-k-init c = refl
+loop-k-init c = (omega arith, refl)
 
-pub loop-k-preserved : goal.loop-k-preserved
-loop-k-preserved c =
+pub returns-then-not-part_inside : goal.returns-then-not-part_inside
+returns-then-not-part_inside c =
     let a = c.args in
-    let r = c.rect_at-r.result in
-    let right = before r.x1 a.w c.last-right.result (omega (arith, ap (λ (q : Rect). q.x1) c.rect_at-r.ensures, c.type_inv.rects (4 * c.loop-k.k + 2))) c.last-right.ensures in
-    let bottom = before r.y1 a.h c.last-bottom.result (omega (arith, ap (λ (q : Rect). q.y1) c.rect_at-r.ensures, c.type_inv.rects (4 * c.loop-k.k + 3))) c.last-bottom.ensures in
-    let test = ap₂ (λ x y. leb r.x0 r.x1 && leb r.y0 r.y1 && x && y) right bottom in
-    ap₂ ◌&&◌ c.loop-k.invariant (test ∙ ap (inside a.w a.h) c.rect_at-r.ensures) ∙ sym (every_more c.loop-k.k (λ j. inside a.w a.h (rect_at a.rects.now j)))
+    let q : ℕ → Bool = λ k. inside a.w a.h (rect_at a.rects.now k) in
+    none_later (c.loop-k.k + c.min.result) (count a.rects.now) q (omega (arith, c.loop-k-test.true)) (c.part_inside.ensures ∙ fails (every_below c.loop-k.k q) c.part_inside.result c.if-not-part_inside.true)
