@@ -26,7 +26,7 @@ use Rattle.box_lists.proofs.EveryBox.{boxes_next, boxes_none, boxes_few, rectang
 
 -- ---- nothing was found: nothing is stored
 
-stored_none : {n : ℕ} {lent : Lent} → Stored None n lent lent n
+pub stored_none : {n : ℕ} {lent : Lent} → Stored None n lent lent n
 stored_none = record { rects = refl; marks = refl; coverages = refl; number = omega arith }
 
 listed_few : (f : Option CheckBox) → length (listed f) ≤ 1

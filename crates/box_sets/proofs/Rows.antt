@@ -4,26 +4,48 @@ use mathlib.Core.Path.{◌≡◌, sym, ap, ap₂, ◌∙◌}
 use mathlib.Core.Bool.{Bool, true, ◌&&◌}
 use mathlib.Core.Logic.{◌⊎◌, inl, inr}
 use mathlib.Core.List.{List}
-use Prim.Native.Nat.{ℕ, ◌+◌, ◌≤◌, ◌<◌}
+use Prim.Native.Nat.{ℕ, ◌+◌, ◌≤◌, ◌<◌, max}
+use native.Mathlib.Nat.{eq-or-lt_of_le}
 use native.Mathlib.Decide.{dec_lt, ℕ_discrete}
 use native.Mathlib.Omega.{arith}
 use lib.Dec.{leb}
 use lib.ListN.{get_or}
-use borrow.Author.Tests.{le-leb}
+use borrow.Author.Tests.{leb-true, le-leb}
 use Rattle.rects.specs.Rects.{count, width_of, rect_at, distance}
 use Rattle.sets.specs.Steps.{root, Joined}
 use Rattle.sets.proofs.Roots.{joined_keeps, joined_one}
 use Rattle.sets.proofs.Sweeps.{between_more}
 use Rattle.box_widths.specs.Widths.{similar}
 use Rattle.box_sets.specs.Boxes.{touching}
-use Rattle.box_sets.specs.Steps.{Sweep, width_at, NextNear, SweptTo, OneSet}
+use Rattle.box_sets.specs.Steps.{Near, Sweep, width_at, NextNear, SweptTo, OneSet}
 
 -- ---- places in one set
 
 module _ {order : List ℕ} {k e : ℕ} {p : List ℕ} (one : OneSet order k e p) where
+  -- the place itself is one of them
+  pub one_set_begins : OneSet order k (max e (k + 1)) p
+  one_set_begins = record { same = λ b h m. elim (dec_lt b e) [ yes l ↦ one.same b h l | no l ↦ itself b (omega arith) ] }
+    where
+      itself : (b : ℕ) → b ≡ k → root p (get_or order b 0) ≡ root p (get_or order k 0)
+      itself b q = ap (λ (x : ℕ). root p (get_or order x 0)) q
+
   -- seen from the next place
   pub one_set_next : OneSet order (k + 1) e p
   one_set_next = record { same = λ b h m. one.same b (omega arith) m ∙ sym (one.same (k + 1) (omega arith) (omega arith)) }
+
+  -- pairs with the first of them are joined already
+  pub run_known : {rects : List ℕ} {limit : ℕ} {keys p₀ : List ℕ} {l : ℕ} → SweptTo rects limit order keys p₀ k l p → SweptTo rects limit order keys p₀ k (max e l) p
+  run_known {rects} {limit} {keys} {p₀} {l} B = record { before = B.before; pairs = each }
+    where
+      each : (a b : ℕ) → NextNear rects limit order keys a b → (a < k) ⊎ ((a ≡ k) × (b < max e l)) → root p (get_or order a 0) ≡ root p (get_or order b 0)
+      each a b N (inl h) = B.pairs a b N (inl h)
+      each a b N (inr h) =
+          let f = h.0 in
+          let m = h.1 in
+          elim (dec_lt b e) [
+            | yes w ↦ ap (λ (x : ℕ). root p (get_or order x 0)) f ∙ sym (one.same b (omega (arith, N.behind)) w)
+            | no w ↦ B.pairs a b N (inr (f, omega arith))
+          ]
 
 -- one more, after a join
 pub one_set_more : {n : ℕ} {order : List ℕ} {k l : ℕ} {p q : List ℕ} {i j : ℕ} {t : Bool} → ((b : ℕ) → b < n → get_or order b 0 < n) → k < l → l < n
@@ -100,6 +122,18 @@ module _ {rects : List ℕ} {limit : ℕ} {order keys : List ℕ} {k width last 
       each : (a b : ℕ) → NextNear rects limit order keys a b → (a < k + 1) ⊎ ((a ≡ k + 1) × (b < k + 2)) → root p (get_or order a 0) ≡ root p (get_or order b 0)
       each a b N (inl h) = elim (ℕ_discrete a k) [ yes e ↦ in_row a b N e | no e ↦ B.pairs a b N (inl (omega arith)) ]
       each a b N (inr h) = absurd (let x = h.0 in let y = h.1 in omega (arith, N.behind))
+
+  -- a box out of reach, and all behind it
+  out_of_reach : (b : ℕ) → last < get_or keys (get_or order b 0) 0 → Near rects limit (λ i. get_or keys i 0) (get_or order k 0) (get_or order b 0) → ⊥
+  out_of_reach b late f = let h = leb-true _ limit f.close in omega (arith, H.reaches)
+
+  pub row_stops : {p₀ : List ℕ} {l : ℕ} {p : List ℕ} → SweptTo rects limit order keys p₀ k l p → l < count rects → last < get_or keys (get_or order l 0) 0
+      → SweptTo rects limit order keys p₀ (k + 1) (k + 2) p
+  row_stops {l = l} B ll late = row_rests B (λ b m N. out_of_reach b (later b m N.inside (eq-or-lt_of_le m)) N.near)
+    where
+      later : (b : ℕ) → l ≤ b → b < count rects → (l ≡ b) ⊎ (l < b) → last < get_or keys (get_or order b 0) 0
+      later b m lb (inl e) = rw e at late
+      later b m lb (inr s) = omega (arith, S.sorted.ascends l b s lb)
 
   -- none is next to the first of a row past one of its width
   pub row_meets_width : {p₀ : List ℕ} {l : ℕ} {p : List ℕ} → SweptTo rects limit order keys p₀ k (l + 1) p → k < l → width_at rects order l ≡ width

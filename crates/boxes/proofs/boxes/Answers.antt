@@ -1,7 +1,9 @@
--- `boxes::boxes` meets its contract: where no question is missed, the core finds the boxes.
-use Rattle.std.proofs.Common.{rules}
+-- `boxes::boxes` meets its contract: where no question is missed, the core finds the boxes. That none is missed is searched for, and not read off
+-- the call, so that it may be known in any way.
+use Rattle.std.proofs.Common.{◌≡◌, rules}
+use Rattle.questions.specs.Questions.{first_missed}
 use Rattle.box_lists.specs.Steps.{lists_of}
-use Rattle.boxes.specs.Call.{Given, Lent}
+use Rattle.boxes.specs.Call.{Given, Lent, questions}
 use Rattle.boxes.proofs.Accepted.{accepted_ready}
 use Rattle.boxes.proofs.Call.{accepted}
 use Rattle.boxes.proofs.boxes.Goals.{Start}
@@ -18,10 +20,13 @@ lent s = record { rects = s.args.rects.now; marks = s.args.marks.now; coverages 
 
 pub find-count-requires : goal.find-count-requires
 find-count-requires c =
-    let s = (goal.at.find-count-requires c).Start in rw c.limits_of-l.ensures (accepted_ready (given s) (lent s) c.in_default.ensures)
+    let s = (goal.at.find-count-requires c).Start in
+    let none : 0 ≡ first_missed (questions (given s) (lent s)) = search rules in
+    rw c.limits_of-l.ensures (accepted_ready (given s) (lent s) none)
 
 pub returns : goal.returns
 returns c =
     let s = (goal.at.returns c).Start in
-    let A = accepted (given s) (lent s) c.in_default.ensures (lists_of c.find-count.new.lists) c.limits_of-l.ensures c.find-count.ensures.made in
+    let none : 0 ≡ first_missed (questions (given s) (lent s)) = search rules in
+    let A = accepted (given s) (lent s) none (lists_of c.find-count.new.lists) c.limits_of-l.ensures c.find-count.ensures.made in
     search rules
