@@ -22,6 +22,12 @@ pub record Roomy (n : ℕ) (l : Lent) : Type 0 where
   pub work : n ≤ length l.work
   pub keys : n ≤ length l.keys
 
+-- The work lists are as long as they were.
+pub record WorkLong (l l' : Lent) : Type 0 where
+  pub parents : length l'.parents ≡ length l.parents
+  pub work : length l'.work ≡ length l.work
+  pub keys : length l'.keys ≡ length l.keys
+
 -- What the core leaves of the answers, and their counts; the lists give each set and its reading order back.
 pub record Filled (rects : List ℕ) (limit least : ℕ) (l l' : Lent) (ss gs : ℕ) : Type 0 where
   pub set_count : ss ≡ length (box_sets rects limit)

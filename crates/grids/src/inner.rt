@@ -5,7 +5,7 @@ ghost use Rattle.params.specs.Limits.{align_limit};
 ghost use Rattle.params.specs.Steps.{SettingsPassed};
 ghost use Rattle.box_widths.specs.Steps.{PassedBoxes};
 ghost use Rattle.grids.specs.Lent.{lists_of, Same};
-ghost use Rattle.grids.specs.Steps.{Roomy, Filled};
+ghost use Rattle.grids.specs.Steps.{Roomy, Filled, WorkLong};
 
 use crate::lent::Lists;
 use crate::minimum;
@@ -32,6 +32,7 @@ pub struct Counts {
 pub fn find(rects: &[u32], limit: u64, least: u32, lists: &mut Lists) -> Counts
     requires { (limit < 2 ^ 40) × PassedBoxes rects.now × Roomy (count rects.now) (lists_of lists.old) }
     ensures filled { Filled rects.now limit least (lists_of lists.old) (lists_of lists.new) result.sets result.grids }
+    ensures work_long { WorkLong (lists_of lists.old) (lists_of lists.new) }
     ensures same { Same lists.old lists.new }
 {
     let members = &mut *lists.members;

@@ -1,5 +1,5 @@
 // The lists that `segments` is lent: of the rulings, with the sets of pieces, then work lists.
-ghost use Rattle.std.specs.Prelude.{◌≡◌, ◌*◌, ◌<◌, ◌^◌};
+ghost use Rattle.std.specs.Prelude.{◌≡◌};
 ghost use Rattle.ruling_questions.specs.Lent.{lists_of, room_for};
 
 #[derive(Drop)]
@@ -19,10 +19,9 @@ pub struct Lists<'l> {
 impl Lists<'_> {
     // Is there room for n rulings, and for n pieces in each index, member or work list?
     pub fn room_for(&self, n: usize) -> bool
-        requires { 4 * n < 2 ^ 64 }
         ensures { result ≡ room_for n (lists_of self.now) }
     {
-        (4 * n <= self.rects.len())
+        (n <= self.rects.len() / 4)
             & (n <= self.directions.len())
             & (n <= self.contrasts.len())
             & (n <= self.piece_members.len())

@@ -23,6 +23,14 @@ pub record Ready (raster : Raster) (pieces : List ℕ) (l : Lent) : Type 0 where
   pub few : count pieces ≤ 4096
   pub roomy : Roomy (count pieces) l
 
+-- The work lists are as long as they were.
+pub record WorkLong (l l' : Lent) : Type 0 where
+  pub parents : length l'.parents ≡ length l.parents
+  pub listed : length l'.listed ≡ length l.listed
+  pub listed_ends : length l'.listed_ends ≡ length l.listed_ends
+  pub work : length l'.work ≡ length l.work
+  pub keys : length l'.keys ≡ length l.keys
+
 -- The rulings of some sets were written, and the sets with them; there are no more rulings than pieces, and the lists give
 -- each set back.
 pub record Made (raster : Raster) (pieces : List ℕ) (ss : List (List ℕ)) (l l' : Lent) (r : ℕ) : Type 0 where

@@ -2,7 +2,7 @@
 ghost use Rattle.ruling_lists.specs.Rulings.{ordered_sets};
 ghost use Rattle.ruling_questions.specs.Lent.{lists_of, Same};
 ghost use Rattle.segments.specs.Call.{Segments};
-ghost use Rattle.segments.specs.Steps.{Ready, Made};
+ghost use Rattle.segments.specs.Steps.{Ready, Made, WorkLong};
 
 use listings::listed::Sets;
 use paper::Raster;
@@ -25,6 +25,7 @@ pub fn rulings(raster: &Raster, pieces: &[u32], across: u32, gap: u32, lists: &m
     requires { Ready raster.now pieces.now (lists_of lists.old) }
     ensures made { Made raster.now pieces.now (ordered_sets pieces.now across gap)
         (lists_of lists.old) (lists_of lists.new) result }
+    ensures work_long { WorkLong (lists_of lists.old) (lists_of lists.new) }
     ensures same { Same lists.old lists.new }
 {
     let members = &mut *lists.listed;
@@ -152,7 +153,7 @@ fn find_rulings(
     }) (lists_of lists.old) (lists_of lists.new) result }
     ensures same { Same lists.old lists.new }
 {
-    if let Err(missed) = guard::missed(w, h, xheight, pieces, p, raster, lists) {
+    if let Err(missed) = guard::missed_by_lists(w, h, xheight, pieces, p, raster, lists) {
         return Answer {
             number: missed.number(),
             count: 0,

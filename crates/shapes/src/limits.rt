@@ -7,7 +7,7 @@ use params::settings::RulingsParams;
 
 #[derive(Clone, Copy)]
 pub struct Limits {
-    pub join: u32,
+    pub join: u64,
     pub cluster: u64,
     pub min_horizontal: u32,
     pub min_vertical: u32,
@@ -17,7 +17,7 @@ pub fn limits_of(p: RulingsParams, xheight: f64) -> Limits
     requires { SettingsPassed p xheight }
     ensures { result ≡ table_limits_of p xheight }
 {
-    let join = params::pixels::limit_u32(p.join_tol_xh, xheight);
+    let join = params::pixels::limit(p.join_tol_xh, xheight);
     let cluster = params::pixels::limit(p.line_cluster_xh, xheight);
     Limits {
         join,

@@ -21,16 +21,30 @@ pub fn missed(
     p: RulingsParams,
     rects: &[u32],
     directions: &[u32],
-    lists: &Lists,
-    chosen: &[u32],
+    room: bool,
 ) -> Result<(), Missed>
-    ensures { number_in result ≡ first_missed (table_questions xheight p rects.now directions.now
-        (room_for (count rects.now) (lists_of lists.now) chosen.now)) }
+    ensures { number_in result ≡ first_missed (table_questions xheight p rects.now directions.now room) }
 {
     params::scan::missed_by_xheight(xheight)?;
     let given = rects::count_fits(rects, 4096) & directions_fit(rects, directions);
     ask(given, Missed::Counts)?;
     ask(rects::all_inside(rects, 8192, 8192), Missed::Rectangles)?;
     params::validate::missed_by_settings(p)?;
-    ask(lists.room_for(rects.len() / 4, chosen), Missed::Room)
+    ask(room, Missed::Room)
+}
+
+// The same, with room as the lists have it.
+pub fn missed_by_lists(
+    xheight: f64,
+    p: RulingsParams,
+    rects: &[u32],
+    directions: &[u32],
+    lists: &Lists,
+    chosen: &[u32],
+) -> Result<(), Missed>
+    ensures { number_in result ≡ first_missed (table_questions xheight p rects.now directions.now
+        (room_for (count rects.now) (lists_of lists.now) chosen.now)) }
+{
+    let room = lists.room_for(rects.len() / 4, chosen);
+    missed(xheight, p, rects, directions, room)
 }

@@ -1,5 +1,5 @@
 // The lists that `tables` is lent, but for the places of the chosen rulings: answers, then work lists.
-ghost use Rattle.std.specs.Prelude.{◌≡◌, ◌*◌, ◌<◌, ◌^◌};
+ghost use Rattle.std.specs.Prelude.{◌≡◌};
 ghost use Rattle.table_questions.specs.Lent.{lists_of, room_for};
 
 #[derive(Drop)]
@@ -21,11 +21,10 @@ pub struct Lists<'l> {
 impl Lists<'_> {
     // Is there room for n tables, and for n rulings in each index, member or work list? `chosen` is to have their places.
     pub fn room_for(&self, n: usize, chosen: &[u32]) -> bool
-        requires { 4 * n < 2 ^ 64 }
         ensures { result ≡ room_for n (lists_of self.now) chosen.now }
     {
         (n <= self.numbers.len())
-            & (4 * n <= self.bounds.len())
+            & (n <= self.bounds.len() / 4)
             & (n <= self.rows.len())
             & (n <= self.columns.len())
             & (n <= self.rulings.len())

@@ -9,13 +9,22 @@ use Rattle.lists.proofs.Keep.{length_below}
 use Rattle.questions.specs.Questions.{first_missed}
 use Rattle.params.specs.declared.settings.RulingsParams.{RulingsParams}
 use Rattle.params.proofs.Limits.{limits}
+use Rattle.params.specs.Steps.{SettingsPassed}
 use Rattle.shapes.specs.declared.limits.Limits.{Limits}
+use Rattle.shapes.specs.Limits.{table_limits_of}
 use Rattle.meeting.specs.Steps as Meeting
 use Rattle.table_questions.specs.Lent.{Lists}
 use Rattle.tables.specs.Call.{Given, questions, places, table_limits, Tables}
 use Rattle.tables.specs.Steps.{with_chosen, Filled, Roomy}
 use Rattle.tables.proofs.Demand.{demand3}
 use Rattle.tables.proofs.Passing.{passed}
+
+-- passed questions bound the limits
+pub join_small : (p : RulingsParams) (xheight : Float) → SettingsPassed p xheight → (table_limits_of p xheight).join < 2 ^ 32
+join_small p xheight S = omega (arith, (limits p xheight S).join.at_most)
+
+pub join_of : (p : RulingsParams) (xheight : Float) {lim : Limits} → lim ≡ table_limits_of p xheight → SettingsPassed p xheight → lim.join < 2 ^ 32
+join_of p xheight e S = rw e (join_small p xheight S)
 
 -- all rulings are chosen
 pub all_chosen : (n : ℕ) (c : List ℕ) {c' : List ℕ} → c' ≡ written (below n) c → take n c' ≡ below n

@@ -41,6 +41,12 @@ pub record Filled (rects directions chosen : List ℕ) (lim : Limits) (l l' : Li
   pub free : l'.free ≡ written (free rects directions chosen lim) l.free
   pub read : ReadAs (all_sets rects directions chosen lim) l'.members l'.ends ss
 
+-- The work lists are as long as they were.
+pub record WorkLong (l l' : Lists) : Type 0 where
+  pub parents : length l'.parents ≡ length l.parents
+  pub work : length l'.work ≡ length l.work
+  pub keys : length l'.keys ≡ length l.keys
+
 -- Every list has room for n rulings or as many tables: what question 14 shows.
 pub record Roomy (n : ℕ) (l : Lists) : Type 0 where
   pub members : n ≤ length l.members

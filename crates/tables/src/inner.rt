@@ -1,7 +1,7 @@
 // Tables and free rulings among the chosen ones: the core, which asks for what the questions show.
-ghost use Rattle.std.specs.Prelude.{length};
+ghost use Rattle.std.specs.Prelude.{◌<◌, ◌^◌, length};
 ghost use Rattle.table_questions.specs.Lent.{lists_of, Same};
-ghost use Rattle.tables.specs.Steps.{Filled, Roomy};
+ghost use Rattle.tables.specs.Steps.{Filled, Roomy, WorkLong};
 
 use crossings::connect;
 use listings::listed::Sets;
@@ -20,16 +20,19 @@ pub struct Counts {
 
 // Lists the closed sets of the chosen rulings, and of them the tables with their facts, and the free list.
 pub fn find(rulings: &Rulings, limits: Limits, lists: &mut Lists) -> Counts
-    requires { Roomy (length rulings.now.chosen) (lists_of lists.old) }
+    requires join_bound { limits.join < 2 ^ 32 }
+    requires roomy { Roomy (length rulings.now.chosen) (lists_of lists.old) }
     ensures filled { Filled rulings.now.rects rulings.now.directions rulings.now.chosen limits
         (lists_of lists.old) (lists_of lists.new) result.sets result.tables result.free }
+    ensures work_long { WorkLong (lists_of lists.old) (lists_of lists.new) }
     ensures same { Same lists.old lists.new }
 {
+    let join = limits.join as u32;
     let members = &mut *lists.members;
     let ends = &mut *lists.ends;
     let count = connect::connect(
         rulings,
-        limits.join,
+        join,
         lists.parents,
         lists.work,
         lists.keys,
@@ -57,7 +60,7 @@ pub fn find(rulings: &Rulings, limits: Limits, lists: &mut Lists) -> Counts
     facts::bound(rulings, &sets, numbers, found.tables, lists.bounds);
     facts::measure(
         rulings,
-        limits.join,
+        join,
         &sets,
         numbers,
         found.tables,

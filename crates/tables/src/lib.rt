@@ -114,7 +114,7 @@ fn find_tables(
         (with_chosen (lists_of lists.old) chosen.old) (with_chosen (lists_of lists.new) chosen.new) result }
     ensures same { Same lists.old lists.new }
 {
-    if let Err(missed) = guard::missed(xheight, p, rects, directions, lists, chosen) {
+    if let Err(missed) = guard::missed_by_lists(xheight, p, rects, directions, lists, chosen) {
         return Answer {
             number: missed.number(),
             sets: 0,

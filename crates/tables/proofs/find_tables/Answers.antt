@@ -6,7 +6,7 @@ use Rattle.rects.specs.Rects.{count}
 use Rattle.table_questions.specs.Lent.{lists_of}
 use Rattle.tables.specs.Call.{Given}
 use Rattle.tables.proofs.Passing.{Passed, passed}
-use Rattle.tables.proofs.Accepting.{found, all_chosen, given_all, roomy_all}
+use Rattle.tables.proofs.Accepting.{found, all_chosen, given_all, join_of, roomy_all}
 use Rattle.tables.proofs.find_tables.Goals.{In_default, Start}
 use Rattle.tables.proofs.find_tables.Goals as goal
 
@@ -28,9 +28,13 @@ slice_bounds-all-end-2 c =
 pub invariant_of-all : goal.invariant_of-all
 invariant_of-all c = given_all (count c.args.rects.now) c.args.chosen.now c.begin.ensures (known (goal.at.invariant_of-all c).In_default).given
 
-pub find-found-requires : goal.find-found-requires
-find-found-requires c =
-    roomy_all (lists_of c.args.lists.now) (known (goal.at.find-found-requires c).In_default).roomy (all_chosen (count c.args.rects.now) c.args.chosen.now c.begin.ensures)
+pub find-found-requires-clause-join_bound : goal.find-found-requires-clause-join_bound
+find-found-requires-clause-join_bound c =
+    join_of c.args.p c.args.xheight c.limits_of.ensures (known (goal.at.find-found-requires-clause-join_bound c).In_default).settled
+
+pub find-found-requires-clause-roomy : goal.find-found-requires-clause-roomy
+find-found-requires-clause-roomy c =
+    roomy_all (lists_of c.args.lists.now) (known (goal.at.find-found-requires-clause-roomy c).In_default).roomy (all_chosen (count c.args.rects.now) c.args.chosen.now c.begin.ensures)
 
 pub returns-clause-answers : goal.returns-clause-answers
 returns-clause-answers c =

@@ -1,5 +1,6 @@
 -- `rules::read` meets its contract: each stage finds what the ones before it left.
 use mathlib.Core.Path.{refl, ◌∙◌}
+use native.Mathlib.Omega.{arith}
 use Rattle.page.proofs.Fields.{page_of}
 use Rattle.read_page.proofs.Known.{known}
 use Rattle.read_page.proofs.Ruled.{level_ready, rulings_ready, ruling, split_ready, split, tables_ready, tabled}
@@ -14,12 +15,14 @@ connect-rulings-requires c =
     let R = rw (← c.page.view_is) at c.requires in
     rw (← c.page.view_is) (rulings_ready (page_of c.page.inside) (known (page_of c.page.inside) R.given) _ R.room c.level.ensures)
 
+-- there is room for either of the two lists in the other's place, so that an exchange of both is refused for what it leaves
 pub part-parted-requires : goal.part-parted-requires
 part-parted-requires c =
     let R = rw (← c.page.view_is) at c.requires in
     let K = known (page_of c.page.inside) R.given in
     let M = rw (← c.page.view_is) at c.connect-rulings.ensures in
-    split_ready (page_of c.page.inside) K _ R.room (ruling (page_of c.page.inside) K _ R.room c.level.ensures M)
+    let S = split_ready (page_of c.page.inside) K _ R.room (ruling (page_of c.page.inside) K _ R.room c.level.ensures M) in
+    (S.0, record { few = S.1.few; printed = omega (arith, S.1.printed, S.1.faint); faint = omega (arith, S.1.printed, S.1.faint) })
 
 pub find_tables-found-requires : goal.find_tables-found-requires
 find_tables-found-requires c =
