@@ -66,6 +66,18 @@ module _ (g : Page) (l : Lent) where
         demand3 = λ z. absurd (n (sym number ∙ z));
       }
 
+  -- a page that misses one of questions 1 to 13
+  pub first_missed_lem : {q : ℕ} → q ≡ first_missed (given_questions g) → (q ≡ 0 → ⊥) → q ≡ first_missed (first_questions g l)
+  first_missed_lem {q} e n =
+      e ∙ sym (in_two_parts (given_questions g) ((14, roomy g l) ∷ []) tt ∙ ap (λ (b : Bool). cond b (first_missed ((14, roomy g l) ∷ [])) (first_missed (given_questions g))) (ne_eqb (first_missed (given_questions g)) 0 (λ z. n (e ∙ z))))
+
+  passed_given : first_missed (given_questions g) ≡ 0 → first_missed (first_questions g l) ≡ cond (roomy g l) 0 14
+  passed_given z = in_two_parts (given_questions g) ((14, roomy g l) ∷ []) tt ∙ ap (λ (b : Bool). cond b (first_missed ((14, roomy g l) ∷ [])) (first_missed (given_questions g))) (eq-eqb (first_missed (given_questions g)) 0 z)
+
+  -- a page that misses question 14
+  pub room_missed : first_missed (given_questions g) ≡ 0 → roomy g l ≡ false → 14 ≡ first_missed (first_questions g l)
+  room_missed z r = sym (passed_given z ∙ ap {B = ℕ} (λ (b : Bool). cond b 0 14) r)
+
   -- a page that misses none of questions 1 to 14
   pub passed : first_missed (first_questions g l) ≡ 0 → Passed g l
   passed z =

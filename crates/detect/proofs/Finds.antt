@@ -138,7 +138,7 @@ module _ (g : Page) (K : Known g) (l : Lent) (Q : Room g.sides.w g.sides.h (coun
       λ i. record { rects = b i; marks = m i; coverages = c i; set = f i; grids = n i }
 
   -- what is left are the page's findings
-  left : {c c' : Columns} {n : ℕ} {finite : Bool} → Left made_from c c' n finite
+  pub left : {c c' : Columns} {n : ℕ} {finite : Bool} → Left made_from c c' n finite
       → PageFound (Page.scan g) g.dpi (Page.ruled g) (Page.printed g) (Page.faint g) (Page.tabled g) (Page.free g) (Page.boxed g) c c' n finite
   left {c} {c'} {n} {finite} L =
       transport (λ i. PageFound (Page.scan g) g.dpi (ruled_is i) (printed_is i) (faint_is i) (tabled_is i) (free_is i) (boxed_is i) c c' n finite) L
@@ -167,7 +167,7 @@ module _ (g : Page) (K : Known g) (l : Lent) (Q : Room g.sides.w g.sides.h (coun
         };
       }
 
-  find_ready : Ready made_from (work_of r k) l.found
+  pub find_ready : Ready made_from (work_of r k) l.found
   find_ready =
       let r' = sym ruled_is in
       let p = sym printed_is in

@@ -1,3 +1,5 @@
 -- Why `detect` keeps its promise.
 mod Finds
-mod Answering
+pub mod Answering
+-- Of arrays of lent lists.
+pub mod Fits

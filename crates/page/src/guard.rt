@@ -63,7 +63,7 @@ fn missed_by_settings(p: RulingsParams, f: FusionParams) -> Result<(), Missed>
 }
 
 // Questions 1 to 13, about the page alone.
-fn missed_by_given(page: &Page) -> Result<(), Missed>
+pub fn missed_by_given(page: &Page) -> Result<(), Missed>
     ensures { number_in result ≡ first_missed (given_questions page.now) }
 {
     missed_by_scan(page)?;

@@ -6,4 +6,4 @@ pub mod counts;
 pub mod given;
 pub mod guard;
 pub mod lent;
-mod room;
+pub mod room;

@@ -10,7 +10,7 @@ use crate::lent::{LentMarks, LentRules};
 use finding_lists::lent::LentFindings;
 
 // Of n rulings, with the sets of pieces.
-fn rulings_fit(n: usize, l: &LentRules) -> bool
+pub fn rulings_fit(n: usize, l: &LentRules) -> bool
     requires { 4 * n < 2 ^ 64 }
     ensures { result ≡ rulings_fit n (rules_of l.now) }
 {
@@ -24,7 +24,7 @@ fn rulings_fit(n: usize, l: &LentRules) -> bool
 }
 
 // Of n tables, with the sets of printed rulings and the free list.
-fn tables_fit(n: usize, l: &LentRules) -> bool
+pub fn tables_fit(n: usize, l: &LentRules) -> bool
     requires { 4 * n < 2 ^ 64 }
     ensures { result ≡ tables_fit n (rules_of l.now) }
 {
@@ -40,7 +40,7 @@ fn tables_fit(n: usize, l: &LentRules) -> bool
 }
 
 // Of m boxes, with their sets and reading orders.
-fn boxes_fit(m: usize, l: &LentMarks) -> bool
+pub fn boxes_fit(m: usize, l: &LentMarks) -> bool
     requires { 4 * m < 2 ^ 64 }
     ensures { result ≡ boxes_fit m (marks_of l.now) }
 {
@@ -54,7 +54,7 @@ fn boxes_fit(m: usize, l: &LentMarks) -> bool
 }
 
 // Of n findings: rectangles, kind and three facts, log odds, two evidences, a fold's length.
-fn findings_fit(n: usize, l: &LentFindings) -> bool
+pub fn findings_fit(n: usize, l: &LentFindings) -> bool
     requires { 4 * n < 2 ^ 64 }
     ensures { result ≡ findings_fit n (columns_of l.now) }
 {
@@ -71,7 +71,7 @@ fn findings_fit(n: usize, l: &LentFindings) -> bool
 }
 
 // Of the work lists, for n pieces and m glyph boxes.
-fn work_fits(n: usize, m: usize, l: &LentRules, k: &LentMarks) -> bool
+pub fn work_fits(n: usize, m: usize, l: &LentRules, k: &LentMarks) -> bool
     ensures { result ≡ work_fits n m (rules_of l.now) (marks_of k.now) }
 {
     (n <= l.parents.len())

@@ -21,10 +21,10 @@ use Rattle.page_findings.specs.Sources.{Sources, boxes_of, freed, folded}
 use Rattle.page_findings.specs.Steps.{Work, Ready, ReadyToWrite, WroteAll, Left}
 
 module _ (s : Sources) {w : Work} {l : Columns} (R : Ready s w l) where
-  freed_given : AllGiven s.scan.sides.w s.scan.sides.h s.ruled.rects s.ruled.directions s.ruled.contrasts (freed s)
+  pub freed_given : AllGiven s.scan.sides.w s.scan.sides.h s.ruled.rects s.ruled.directions s.ruled.contrasts (freed s)
   freed_given = free_given s.printed s.free R.free_given R.printed_given
 
-  folded_given : AllGiven s.scan.sides.w s.scan.sides.h s.ruled.rects s.ruled.directions s.ruled.contrasts (folded s)
+  pub folded_given : AllGiven s.scan.sides.w s.scan.sides.h s.ruled.rects s.ruled.directions s.ruled.contrasts (folded s)
   folded_given = kept_given (λ k. is_fold s.scan.settings (fold_inches s.dpi s.ruled.rects s.ruled.directions k)) s.faint R.faint_given
 
   module _ {pl fo : List ℕ} {m : ℕ} (P : pl ≡ written (freed s) w.places) (F : Front (folded s) w.folds fo m) where

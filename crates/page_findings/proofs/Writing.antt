@@ -15,16 +15,16 @@ use Rattle.page_findings.specs.Sources.{Sources, boxes_of}
 use Rattle.page_findings.specs.Steps.{ReadyToWrite, WroteAll}
 
 module _ (s : Sources) {places folds : List ℕ} {rules : ℕ} {ranks grid_ranks : List ℕ} {l : Columns} (R : ReadyToWrite s places folds rules ranks grid_ranks l) {n : ℕ} (e : n ≡ count s.tabled.bounds) where
-  abbrev table : ℕ → Finding
+  abbrev pub table : ℕ → Finding
   table = table_at s.scan s.tabled
 
-  abbrev loose : ℕ → Finding
+  abbrev pub loose : ℕ → Finding
   loose k = free_of s.scan s.ruled places
 
-  abbrev fold : ℕ → Finding
+  abbrev pub fold : ℕ → Finding
   fold k = fold_at s.scan s.dpi s.ruled (get_or folds k 0)
 
-  abbrev grid : ℕ → Finding
+  abbrev pub grid : ℕ → Finding
   grid k = grid_of s.scan s.boxed.rects s.boxed.marks s.boxed.coverages (sets_of s.boxed (get_or s.boxed.grids k 0))
 
   module _ {l₁ : Columns} {b₁ : Bool} (T : Wrote table (count s.tabled.bounds) ranks 0 l l₁ b₁) where

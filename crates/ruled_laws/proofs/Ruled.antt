@@ -131,7 +131,7 @@ module _ (g : Page) (few : count g.pieces ≤ 4096) (narrow : g.sides.w ≤ 8192
   free_given = Tabled.free_known (Page.rects g) (Page.directions g) (Page.printed g) (Page.table_limits g) chosen_given.few
 
   -- Every fold is a faint ruling.
-  folds_few : length (folds g.settings g.dpi (Page.rects g) (Page.directions g) (Page.faint g)) ≤ length (Page.faint g)
+  pub folds_few : length (folds g.settings g.dpi (Page.rects g) (Page.directions g) (Page.faint g)) ≤ length (Page.faint g)
   folds_few = keep_size_le (λ k. is_fold g.settings (fold_inches g.dpi (Page.rects g) (Page.directions g) k)) (Page.faint g)
 
   -- Tables, the free rules and folds make no more findings than there are rulings.
